@@ -1,0 +1,9 @@
+use Rattle.std.proofs.Common.{rules, ◌≡◌, length}
+use Rattle.ss_element.proofs.Places.{Indexed-clock}
+use Rattle.ss_element.proofs.wires.Wires.clock.Goals as goal
+
+pub invariant_of-self-2 : goal.invariant_of-self-2
+invariant_of-self-2 c =
+    let s = c.self.inside in
+    let place : c.len-place.result ≡ length s.inner.items = search rules in
+    Indexed-clock s.links.items s.inner.items _ s.own_lines s.ports s.owns s.clocks c.grow.new.self c.fill.new.self c.args.component c.args.index c.args.period c.len-place.result c.self.invariant (search rules) place c.in_ok-push.ensures.items c.in_ok-grow.ensures.same c.fill.ensures

@@ -1,0 +1,151 @@
+//! What a simulation is made of: elements, what they ask for, and the wires between them.
+#![tactic(auto)]
+
+ghost use Rattle.std.specs.Prelude.{◌≡◌, ◌<◌, ◌^◌, [], ◌∷◌, ◌++◌, OnOk, OnErr, ◌==◌, IfSome, IfNone, List, ℕ, Bool, length};
+ghost use Rattle.std.specs.Slice.{IsItemAt};
+ghost use Rattle.ss_model.specs.Wiring.{Wiring};
+ghost use Rattle.ss_model.specs.Step.{State, turns_off};
+ghost use Rattle.ss_element.specs.Kind.{Kind};
+ghost use Rattle.ss_element.specs.World.{World};
+
+mod simulation;
+mod table;
+#[cfg(test)]
+mod tests;
+mod wires;
+
+pub use simulation::Model;
+pub use ss_model::{ARRIVAL, Action, Cause, Event, InnerLine, Key, Line, LinkLine, START, TICK};
+use std::alloc::{AllocError, Global};
+use std::collections::VecDeque;
+pub use wires::Wires;
+
+/// The actions of a call, in order.
+#[derive(Drop)]
+pub struct Acts<L> {
+    items: VecDeque<Action<L>>,
+    alloc: Global,
+}
+
+impl<L> std::marker::Model for Acts<L> {
+    ghost use Rattle.std.specs.Prelude.{List};
+    ghost use Rattle.ss_model.specs.declared.Action.{Action};
+
+    ghost Value = { List (Action L) };
+
+    ghost view = { λ a. a.items.items };
+}
+
+impl<L> Acts<L> {
+    /// No actions.
+    pub fn new(alloc: Global) -> Self
+        ensures { result ≡ [] }
+    {
+        Acts {
+            items: VecDeque::new(alloc),
+            alloc,
+        }
+    }
+
+    /// The allocator for what an action holds, such as a text.
+    pub fn allocator(&self) -> Global {
+        self.alloc
+    }
+
+    /// Adds an action behind the others. After an error the actions are as before.
+    pub fn push(&mut self, action: Action<L>) -> Result<(), AllocError>
+    where
+        L: Drop,
+        ensures ok { OnOk result (self.new ≡ self.old ++ action ∷ []) }
+        ensures err { OnErr result (self.new ≡ self.old) }
+    {
+        self.items.push_back(action)?;
+        Ok(())
+    }
+
+    /// Takes the first action. The buffer stays allocated, so that emptied actions are filled again without
+    /// taking memory.
+    pub fn take(&mut self) -> Option<Action<L>>
+        ensures some { IfSome result (λ a. self.old ≡ a ∷ self.new) }
+        ensures none { IfNone result ((self.old ≡ []) × (self.new ≡ [])) }
+    {
+        self.items.pop_front()
+    }
+
+    /// How many actions there are.
+    pub fn len(&self) -> usize
+        ensures { result ≡ length self.now }
+    {
+        self.items.len()
+    }
+
+    /// Whether there are no actions.
+    pub fn is_empty(&self) -> bool
+        ensures { result ≡ (length self.now == 0) }
+    {
+        self.items.is_empty()
+    }
+
+    /// The action at an index, so that actions can be gone over in order without being copied.
+    pub fn get(&self, index: usize) -> Option<&Action<L>>
+        ensures { IsItemAt self.now index result }
+    {
+        self.items.get(index)
+    }
+
+    /// Lets all actions go. The buffer stays allocated.
+    pub fn clear(&mut self)
+    where
+        L: Drop,
+        ensures { self.new ≡ [] }
+    {
+        self.items.clear();
+    }
+
+    /// Whether one of the actions turns the clock off.
+    pub fn turns_off(&self, clock: u16) -> bool
+        ensures { result ≡ turns_off clock self.now }
+    {
+        self.items.iter().any(|a| matches!(a, Action::ClockOff { clock: c } if *c == clock))
+    }
+}
+
+/// A kind of element. The components of a simulation are elements of one type, which may be an enum of kinds.
+pub trait Element: Drop {
+    /// What events carry to such elements.
+    type Load: Copy + Drop;
+
+    /// What there is to know of the kind.
+    ghost kind: { Kind Self Self.Load };
+
+    /// The states that a run can go on from, at a time.
+    ghost safe: { Wiring → ℕ → State Self Self.Load → Type 0 };
+
+    /// Handles a cause at the time `now`, in picoseconds, and adds what it asks for to `acts`.
+    /// After an error nothing is known of the element and of `acts`.
+    fn handle(
+        &mut self,
+        now: u64,
+        cause: &Cause<Self::Load>,
+        acts: &mut Acts<Self::Load>,
+    ) -> Result<(), AllocError>
+        requires early { now < 2 ^ 62 }
+        requires meets { kind.Meets self.old now cause.now }
+        ensures state { OnOk result (self.new ≡ (kind.handled self.old now cause.now).state) }
+        ensures actions { OnOk result (acts.new ≡ acts.old ++ (kind.handled self.old now cause.now).actions) };
+
+    /// Whether the element keeps the simulation going until it is done.
+    fn is_primary(&self) -> bool
+        ensures { result ≡ kind.primary self.now };
+
+    /// Whether the element agrees to end.
+    fn is_done(&self) -> bool
+        ensures { result ≡ kind.done self.now };
+
+    /// Whether a clock is on.
+    fn clock_on(&self, clock: u16) -> bool
+        ensures { result ≡ kind.ticks self.now clock };
+
+    /// What an engine rests on.
+    ghost laws: { World kind safe };
+}

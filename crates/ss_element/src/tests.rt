@@ -1,0 +1,85 @@
+//! What no clause says.
+
+ghost use Rattle.std.specs.Prelude.{◌≡◌, length, IfOk};
+
+use crate::{ARRIVAL, Action, Acts, Cause, Event, Key, Model, START, TICK, Wires};
+use std::alloc::{AllocError, Global};
+
+fn crosses<T: Send + Sync + Drop>(_value: T) {}
+
+fn wired(alloc: Global) -> Result<Wires, AllocError>
+    ensures { IfOk result (λ w. (length w.links ≡ 2) × (length w.inner ≡ 2)) }
+{
+    let mut wires = Wires::new(alloc);
+    wires.line(0, 0, 1, 3, 10)?;
+    wires.line(0, 0, 1, 4, 20)?;
+    wires.own_line(1, 2)?;
+    wires.clock(0, 5, 1000)?;
+    Ok(wires)
+}
+
+#[test]
+fn a_simulation_crosses_threads(rt: HostRuntime) -> Result<(), AllocError> {
+    let wires = Wires::new(rt.alloc());
+    let mut elements = Vec::new(rt.alloc());
+    elements.push(7_u64)?;
+    let model = Model { elements, wires };
+    assert_eq!(rt; model.elements.len(), 1);
+    crosses(model);
+    Ok(())
+}
+
+#[test]
+fn wires_are_looked_up(rt: HostRuntime) -> Result<(), AllocError> {
+    let wires = wired(rt.alloc())?;
+    assert_eq!(rt; wires.line_from(0, 0), Some((0, 10)));
+    assert_eq!(rt; wires.line_from(1, 0), None);
+    assert_eq!(rt; wires.own_from(1, 2), Some(2));
+    assert_eq!(rt; wires.clock_of(0, 5), Some((3, 1000)));
+    assert_eq!(rt; wires.counts(), (2, 1, 1));
+    Ok(())
+}
+
+fn event(class: u8, line: u32, load: Option<u64>) -> Event<u64> {
+    let key = Key {
+        time: 5,
+        class,
+        line,
+    };
+    Event { key, load }
+}
+
+#[test]
+fn events_are_told(rt: HostRuntime) -> Result<(), AllocError> {
+    let wires = wired(rt.alloc())?;
+    let told = wires.told(&event(ARRIVAL, 1, Some(9)));
+    assert!(rt; matches!(told, Some((1, Cause::Link { port: 4, load: 9 }))));
+    let told = wires.told(&event(ARRIVAL, 2, Some(9)));
+    assert!(rt; matches!(told, Some((1, Cause::Own { line: 2, load: 9 }))));
+    let told = wires.told(&event(TICK, 3, None));
+    assert!(rt; matches!(told, Some((0, Cause::Tick { clock: 5 }))));
+    let told = wires.told(&event(START, 1, None));
+    assert!(rt; matches!(told, Some((1, Cause::Start))));
+    assert!(rt; wires.told(&event(TICK, 2, None)).is_none());
+    assert!(rt; wires.told(&event(ARRIVAL, 3, Some(9))).is_none());
+    Ok(())
+}
+
+#[test]
+fn actions_are_taken_in_order(rt: HostRuntime) -> Result<(), AllocError> {
+    let mut acts = Acts::new(rt.alloc());
+    acts.push(Action::Send {
+        port: 1,
+        extra: 2,
+        load: 3_u64,
+    })?;
+    acts.push(Action::ClockOff { clock: 4 })?;
+    assert!(rt; acts.turns_off(4));
+    assert!(rt; !acts.turns_off(5));
+    assert_eq!(rt; acts.len(), 2);
+    assert!(rt; matches!(acts.get(1), Some(Action::ClockOff { clock: 4 })));
+    assert!(rt; matches!(acts.take(), Some(Action::Send { load: 3, .. })));
+    acts.clear();
+    assert!(rt; acts.is_empty());
+    Ok(())
+}

@@ -1,0 +1,9 @@
+pub mod Judging
+pub mod Names
+pub mod Components
+pub mod Ends
+pub mod Links
+pub mod Members
+pub mod Lines
+pub mod Texts
+pub mod Fitting

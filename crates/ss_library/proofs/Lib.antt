@@ -1,0 +1,5 @@
+pub mod Values
+pub mod Numbered
+pub mod Lines
+pub mod Ports
+pub mod Opening

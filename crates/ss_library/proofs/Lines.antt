@@ -1,0 +1,46 @@
+-- The lines of links.
+use Rattle.std.proofs.Common.{◌≡◌, ℕ, zero, suc, ◌+◌, ◌*◌, ◌/◌, ◌%◌, ◌<◌, ◌≤◌, ◌==◌, List, [], ◌∷◌, ◌++◌, length, drop, get_or, Option, Some, None, refl, sym, ap, ◌∙◌, arith, append_assoc, append-nil}
+use Rattle.std.specs.Prelude.{slice_get}
+use Rattle.std.proofs.lemmas.Grind.{common_steps}
+use Rattle.ss_graph.specs.declared.graph.Graph.{Graph}
+use Rattle.ss_graph.specs.declared.graph.Join.{Join}
+use Rattle.ss_graph.specs.Links.{line_latency}
+use Rattle.ss_graph.specs.Fit.{lat, lat_by}
+use Rattle.ss_model.specs.declared.LinkLine.{LinkLine}
+use Rattle.ss_model.specs.declared.InnerLine.{InnerLine}
+use Rattle.ss_model.specs.Wiring.{Wiring}
+use Rattle.ss_graph.specs.declared.graph.Part.{Part}
+use Rattle.ss_library.specs.declared.table.KindName.{KindName}
+use Rattle.ss_library.specs.declared.table.KindName.TheVariants as kind
+use Rattle.ss_library.specs.Tables.{kind_named}
+use Rattle.ss_library.specs.Make.{each_numbered, lines_of, inner_of, inner_by}
+use Rattle.ss_library.proofs.Numbered.{numbered_length}
+
+pub onward : (g : Graph) (i : ℕ) (j : Join) → slice_get g.links i ≡ Some j → lat g (2 * i) ≡ line_latency g.components j.left j.right
+onward g i j h =
+    let a : (2 * i) / 2 ≡ i = omega arith in
+    let b : (2 * i) % 2 ≡ 0 = omega arith in
+    ap (λ n. lat_by g.components (slice_get g.links n) ((2 * i) % 2)) a ∙ (ap (λ n. lat_by g.components (slice_get g.links i) n) b ∙ ap (λ o. lat_by g.components o 0) h)
+
+pub back : (g : Graph) (i : ℕ) (j : Join) → slice_get g.links i ≡ Some j → lat g (2 * i + 1) ≡ line_latency g.components j.right j.left
+back g i j h =
+    let a : (2 * i + 1) / 2 ≡ i = omega arith in
+    let b : (2 * i + 1) % 2 ≡ 1 = omega arith in
+    ap (λ n. lat_by g.components (slice_get g.links n) ((2 * i + 1) % 2)) a ∙ (ap (λ n. lat_by g.components (slice_get g.links i) n) b ∙ ap (λ o. lat_by g.components o 1) h)
+
+pub two_more : {X : Type 0} (xs : List X) (x y : X) → (xs ++ x ∷ []) ++ y ∷ [] ≡ xs ++ x ∷ y ∷ []
+two_more xs x y = append_assoc xs (x ∷ []) (y ∷ [])
+
+pub lines_count : (ps : List Part) (js : List Join) → length (each_numbered (lines_of ps) 0 js) ≡ 2 * length js
+lines_count ps js = numbered_length (lines_of ps) 2 0 js (λ i j. grind arith)
+
+pub inner_few : (i : ℕ) (p : Part) → length (inner_of i p) ≤ 1
+inner_few i p = by_kind (kind_named p.kind)
+  where
+    by_kind : (o : Option KindName) → length (inner_by i o) ≤ 1
+    by_kind None = grind arith
+    by_kind (Some kind.Pinger) = grind arith
+    by_kind (Some kind.Echo) = grind arith
+
+pub wires_are : (w : Wiring) (ls : List LinkLine) (ys : List InnerLine) → w.links ≡ ls → w.inner ≡ ys → w ≡ record { links = ls; inner = ys }
+wires_are w ls ys e f = rw (← e, ← f) refl

@@ -1,0 +1,4 @@
+pub mod Kinds
+pub mod Tables
+pub mod Make
+pub mod Laws

@@ -1,0 +1,148 @@
+-- The making of a graph: its checks in order, and the elements and the wires of one that passes them.
+use Rattle.std.specs.Prelude.{ℕ, ◌+◌, List, [], ◌∷◌, ◌++◌, map, Bool, true, false, not, ◌||◌, Option, Some, None, is_some, option_and_then, slice_get, codes}
+use Rattle.ss_model.specs.declared.LinkLine.{LinkLine}
+use Rattle.ss_model.specs.declared.InnerLine.{InnerLine}
+use Rattle.ss_model.specs.declared.InnerLine.TheVariants as inner
+use Rattle.ss_model.specs.Wiring.{Wiring}
+use Rattle.ss_graph.specs.declared.graph.Graph.{Graph}
+use Rattle.ss_graph.specs.declared.graph.Join.{Join}
+use Rattle.ss_graph.specs.declared.graph.Part.{Part}
+use Rattle.ss_graph.specs.declared.graph.PortEnd.{PortEnd}
+use Rattle.ss_graph.specs.Checks.{Check, check, at}
+use Rattle.ss_graph.specs.Options.{the}
+use Rattle.ss_graph.specs.Links.{end_place, is_taken, line_latency}
+use Rattle.ss_graph.specs.Fit.{ends_of}
+use Rattle.ss_library.specs.declared.kinds.Any.{Any}
+use Rattle.ss_library.specs.declared.kinds.Any.TheVariants as any
+use Rattle.ss_library.specs.declared.table.KindName.{KindName}
+use Rattle.ss_library.specs.declared.table.KindName.TheVariants as kind
+use Rattle.ss_library.specs.declared.table.ParamRow.{ParamRow}
+use Rattle.ss_library.specs.declared.table.PortRow.{PortRow}
+use Rattle.ss_library.specs.declared.fault.MakeFault.{MakeFault}
+use Rattle.ss_library.specs.declared.fault.MakeFault.TheVariants as fault
+use Rattle.ss_library.specs.Tables.{kind_named, params_table, param_text, count_row, delay_row, param_value, port_text, ports_table, port_from}
+
+-- which fault tells that memory ran out
+abbrev pub is_memory : MakeFault → Bool
+is_memory (fault.UnknownType p) = false
+is_memory (fault.UnknownPort p) = false
+is_memory (fault.Param p) = false
+is_memory (fault.PortUnlinked p) = false
+is_memory fault.NoMemory = true
+
+-- what the items of a list give, one after another, where the first has number n
+unfoldable pub each_numbered : {X Y : Type 0} → (ℕ → X → List Y) → ℕ → List X → List Y
+each_numbered f n [] = []
+each_numbered f n (x ∷ xs) = f n x ++ each_numbered f (n + 1) xs
+
+-- ---- components
+
+abbrev pub params_of : Option KindName → List ParamRow
+params_of None = []
+params_of (Some k) = params_table k
+
+abbrev pub row_check : ℕ → List (List ℕ × List ℕ) → ParamRow → Check MakeFault
+row_check i ps r = check (is_some (param_value ps r)) (fault.Param (at (codes "components") i ++ codes ".params." ++ param_text r.name))
+
+-- component i has a kind, and its parameters are as its kind's table has them
+unfoldable pub component_checks : ℕ → Part → List (Check MakeFault)
+component_checks i p =
+  check (is_some (kind_named p.kind)) (fault.UnknownType (at (codes "components") i ++ codes ".type"))
+  ∷ map (row_check i p.params) (params_of (kind_named p.kind))
+
+unfoldable pub components_checks : List Part → List (Check MakeFault)
+components_checks ps = each_numbered component_checks 0 ps
+
+abbrev pub value : Part → ParamRow → ℕ
+value p r = the (param_value p.params r)
+
+-- the first state of a component; one of no kind is never made
+abbrev pub element_by : Part → Option KindName → Any
+element_by p (Some kind.Pinger) = any.Pinger (record { name = p.name; count = value p count_row; sent = 0; got = 0; at = 0 })
+element_by p (Some kind.Echo) = any.Echo (record { delay = value p delay_row })
+element_by p None = any.Echo (record { delay = 0 })
+
+abbrev pub element_of : Part → Any
+element_of p = element_by p (kind_named p.kind)
+
+-- ---- links
+
+abbrev pub kind_of_part : Option Part → Option KindName
+kind_of_part None = None
+kind_of_part (Some p) = kind_named p.kind
+
+abbrev pub kind_at : List Part → ℕ → Option KindName
+kind_at ps c = kind_of_part (slice_get ps c)
+
+abbrev pub ports_of : Option KindName → List PortRow
+ports_of None = []
+ports_of (Some k) = ports_table k
+
+-- the number of the port that an end names
+abbrev pub port_in : List Part → PortEnd → Option ℕ
+port_in ps e = port_from 0 (ports_of (kind_at ps e.component)) e.port
+
+abbrev pub port_check : List Part → ℕ → List ℕ → PortEnd → Check MakeFault
+port_check ps l side e = check (is_some (port_in ps e)) (fault.UnknownPort (end_place l side (codes ".port")))
+
+-- both ends of link l name a port, left then right
+unfoldable pub link_checks : List Part → ℕ → Join → List (Check MakeFault)
+link_checks ps l j = port_check ps l (codes "left") j.left ∷ port_check ps l (codes "right") j.right ∷ []
+
+unfoldable pub links_checks : List Part → List Join → List (Check MakeFault)
+links_checks ps js = each_numbered (link_checks ps) 0 js
+
+-- the line from one end of a link to the other
+abbrev pub line_between : List Part → PortEnd → PortEnd → LinkLine
+line_between ps from to = record {
+  sender = from.component;
+  out_port = the (port_in ps from);
+  receiver = to.component;
+  in_port = the (port_in ps to);
+  latency = line_latency ps from to;
+}
+
+-- link l is line 2l from left to right, and line 2l + 1 back
+abbrev pub lines_of : List Part → ℕ → Join → List LinkLine
+lines_of ps l j = line_between ps j.left j.right ∷ line_between ps j.right j.left ∷ []
+
+-- ---- ports
+
+-- a required port is named by an end
+abbrev pub linked_check : List (ℕ × List ℕ) → ℕ → PortRow → Check MakeFault
+linked_check ends i r = check (not r.required || is_taken ends (i, port_text r.name)) (fault.PortUnlinked (at (codes "components") i ++ codes "." ++ port_text r.name))
+
+unfoldable pub ports_checks : List (ℕ × List ℕ) → ℕ → Part → List (Check MakeFault)
+ports_checks ends i p = map (linked_check ends i) (ports_of (kind_named p.kind))
+
+unfoldable pub all_ports_checks : List (ℕ × List ℕ) → List Part → List (Check MakeFault)
+all_ports_checks ends ps = each_numbered (ports_checks ends) 0 ps
+
+-- ---- the whole
+
+-- all checks of a graph, in their order
+unfoldable pub make_checks : Graph → List (Check MakeFault)
+make_checks g =
+  components_checks g.components
+  ++ (links_checks g.components g.links
+  ++ all_ports_checks (ends_of g.links) g.components)
+
+-- the self lines and clocks of component i: an echo has a self line
+abbrev pub inner_by : ℕ → Option KindName → List InnerLine
+inner_by i None = []
+inner_by i (Some kind.Pinger) = []
+inner_by i (Some kind.Echo) = inner.Own i 0 ∷ []
+
+abbrev pub inner_of : ℕ → Part → List InnerLine
+inner_of i p = inner_by i (kind_named p.kind)
+
+abbrev pub wiring_of : Graph → Wiring
+wiring_of g = record { links = each_numbered (lines_of g.components) 0 g.links; inner = each_numbered inner_of 0 g.components }
+
+-- a simulation that is about to begin: its elements in order, and the wires between them
+pub record Made : Type 0 where
+  pub elements : List Any
+  pub wires : Wiring
+
+abbrev pub model_of : Graph → Made
+model_of g = record { elements = map element_of g.components; wires = wiring_of g }

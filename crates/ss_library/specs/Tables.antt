@@ -1,0 +1,85 @@
+-- The kinds' names, and the tables of their parameters and ports.
+use Rattle.std.specs.Prelude.{ℕ, ◌+◌, ◌*◌, ◌-◌, ◌^◌, ◌==◌, ◌&&◌, List, [], ◌∷◌, length, nat_le, nat_lt, if◌then◌else◌, Option, Some, None, true, codes}
+use Rattle.std.specs.Str.{bytes_eq}
+use Rattle.ss_graph.specs.Options.{time_of}
+use Rattle.ss_library.specs.declared.table.KindName.{KindName}
+use Rattle.ss_library.specs.declared.table.KindName.TheVariants as kind
+use Rattle.ss_library.specs.declared.table.ParamName.{ParamName}
+use Rattle.ss_library.specs.declared.table.ParamName.TheVariants as param
+use Rattle.ss_library.specs.declared.table.Form.{Form}
+use Rattle.ss_library.specs.declared.table.Form.TheVariants as form
+use Rattle.ss_library.specs.declared.table.ParamRow.{ParamRow}
+use Rattle.ss_library.specs.declared.table.PortName.{PortName}
+use Rattle.ss_library.specs.declared.table.PortName.TheVariants as port
+use Rattle.ss_library.specs.declared.table.PortRow.{PortRow}
+
+abbrev pub kind_named : List ℕ → Option KindName
+kind_named s = if bytes_eq s (codes "core.pinger") then Some kind.Pinger else (if bytes_eq s (codes "core.echo") then Some kind.Echo else None)
+
+-- ---- parameters
+
+abbrev pub param_text : ParamName → List ℕ
+param_text param.Count = codes "count"
+param_text param.Delay = codes "delay"
+
+abbrev pub count_row : ParamRow
+count_row = record { name = param.Count; form = form.Count 0 (2 ^ 32 - 1); default = Some 1 }
+
+abbrev pub delay_row : ParamRow
+delay_row = record { name = param.Delay; form = form.Time 0 (2 ^ 40); default = Some 0 }
+
+abbrev pub params_table : KindName → List ParamRow
+params_table kind.Pinger = count_row ∷ []
+params_table kind.Echo = delay_row ∷ []
+
+-- the number that digits write behind v, where it is at most `most`
+abbrev pub digits_value : ℕ → ℕ → List ℕ → Option ℕ
+digits_value most v [] = Some v
+digits_value most v (b ∷ s) = if nat_le 48 b && nat_le b 57 && nat_le (v * 10 + (b - 48)) most then digits_value most (v * 10 + (b - 48)) s else None
+
+-- digits without a leading 0, or 0
+abbrev pub count_value : ℕ → List ℕ → Option ℕ
+count_value most [] = None
+count_value most (b ∷ s) = if b == 48 && nat_lt 0 (length s) then None else digits_value most 0 (b ∷ s)
+
+abbrev pub at_least : ℕ → Option ℕ → Option ℕ
+at_least least None = None
+at_least least (Some n) = if nat_le least n then Some n else None
+
+abbrev pub value_of : Form → List ℕ → Option ℕ
+value_of (form.Count least most) s = at_least least (count_value most s)
+value_of (form.Time least most) s = time_of least most (Some s)
+
+-- the text that a parameter is given, if any
+abbrev pub given : List (List ℕ × List ℕ) → List ℕ → Option (List ℕ)
+given [] q = None
+given (p ∷ ps) q = if bytes_eq p.0 q then Some p.1 else given ps q
+
+abbrev pub value_or : ParamRow → Option (List ℕ) → Option ℕ
+value_or r None = r.default
+value_or r (Some s) = value_of r.form s
+
+-- the value of a parameter among those that are given
+abbrev pub param_value : List (List ℕ × List ℕ) → ParamRow → Option ℕ
+param_value ps r = value_or r (given ps (param_text r.name))
+
+-- ---- ports
+
+abbrev pub port_text : PortName → List ℕ
+port_text port.Port = codes "port"
+
+abbrev pub the_port : PortRow
+the_port = record { name = port.Port; required = true }
+
+abbrev pub ports_table : KindName → List PortRow
+ports_table kind.Pinger = the_port ∷ []
+ports_table kind.Echo = the_port ∷ []
+
+-- the number of the first row with a name, where the rows' numbers begin with n
+abbrev pub port_from : ℕ → List PortRow → List ℕ → Option ℕ
+port_from n [] s = None
+port_from n (r ∷ rs) s = if bytes_eq (port_text r.name) s then Some n else port_from (n + 1) rs s
+
+-- the number of a kind's port: its place in the table
+abbrev pub port_by : KindName → List ℕ → Option ℕ
+port_by k s = port_from 0 (ports_table k) s

@@ -1,0 +1,53 @@
+//! The elements of a graph's components.
+
+ghost use Rattle.std.specs.Prelude.{◌≡◌, map};
+ghost use Rattle.ss_graph.specs.Checks.{Judged};
+ghost use Rattle.ss_library.specs.Make.{is_memory, component_checks, components_checks, element_of};
+
+use crate::fault::MakeFault;
+use crate::kinds::{Any, Echo, Pinger};
+use crate::param::param_at;
+use crate::place::item_place;
+use crate::table::{COUNT, DELAY, KindName, kind_of};
+use ss_graph::Part;
+use ss_units::Text;
+use std::alloc::Global;
+
+/// The element of component `index`.
+#[tactic(auto, using(ss_graph::proofs::Judging::first_fault_append), unfolding(ss_graph::specs::Checks::first_fault, crate::specs::Make::component_checks))]
+fn element_at(alloc: Global, part: &Part, index: usize) -> Result<Any, MakeFault>
+    ensures { Judged is_memory (λ x. x) result (component_checks index part.now) (element_of part.now) }
+{
+    match kind_of(part.kind.as_str()) {
+        Some(KindName::Pinger) => {
+            let count = param_at(alloc, part.params.as_slice(), COUNT, index)?;
+            Ok(Any::Pinger(Pinger {
+                name: part.name.copy(alloc)?,
+                count: count as u32,
+                sent: 0,
+                got: 0,
+                at: 0,
+            }))
+        }
+        Some(KindName::Echo) => {
+            let delay = param_at(alloc, part.params.as_slice(), DELAY, index)?;
+            Ok(Any::Echo(Echo { delay }))
+        }
+        None => {
+            let mut place = item_place(alloc, "components", index)?;
+            place.push_str(".type")?;
+            Err(MakeFault::UnknownType(Text::from_string(place)))
+        }
+    }
+}
+
+/// The elements of the components, in order.
+pub fn elements_of(alloc: Global, parts: &[Part]) -> Result<Vec<Any>, MakeFault>
+    ensures { Judged is_memory (λ v. v.items) result (components_checks parts.now) (map element_of parts.now) }
+{
+    let mut elements = Vec::with_capacity(alloc, parts.len())?;
+    for (index, part) in parts.iter().enumerate() {
+        elements.push(element_at(alloc, part, index)?)?;
+    }
+    Ok(elements)
+}

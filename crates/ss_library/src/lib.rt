@@ -1,0 +1,16 @@
+//! The kinds of elements that a graph may name, and the making of a graph's elements and wires.
+#![tactic(auto)]
+
+mod element;
+mod fault;
+mod kinds;
+mod making;
+mod param;
+mod place;
+mod table;
+#[cfg(test)]
+mod tests;
+
+pub use fault::MakeFault;
+pub use kinds::{Any, Echo, Load, Pinger};
+pub use making::make;

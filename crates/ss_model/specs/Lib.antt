@@ -1,0 +1,4 @@
+pub mod Order
+pub mod Wiring
+pub mod Step
+pub mod End

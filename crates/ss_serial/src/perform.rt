@@ -1,0 +1,188 @@
+//! What follows one event, over the parts of a simulation.
+
+ghost use Rattle.std.specs.Prelude.{◌≡◌, ◌<◌, ◌≤◌, ◌^◌, [], ◌∷◌, ◌++◌, OnOk, OnErr, IfSome, List, ℕ, Some, length, slice_get, option_to_list};
+ghost use Rattle.ss_model.specs.Order.{insert_all};
+ghost use Rattle.ss_model.specs.Wiring.{WiringFits, told};
+ghost use Rattle.ss_model.specs.Step.{made, made_all, again, printed, step_told, lines_told};
+ghost use Rattle.ss_element.specs.Kind.{ActionFits, ActionsFit};
+ghost use Rattle.ss_serial.specs.Serial.{state_of, MayReact};
+
+use ss_element::{Acts, Element, Wires};
+use ss_model::{ARRIVAL, Action, Cause, Event, Key, Line, TICK};
+use ss_pending::Pending;
+use std::alloc::AllocError;
+
+// Does what one action asks for.
+fn carry_out<E: Element>(
+    wires: &Wires,
+    component: u32,
+    key: Key,
+    action: Action<E::Load>,
+    pending: &mut Pending<E::Load>,
+    lines: &mut Vec<Line>,
+) -> Result<(), AllocError>
+    requires early { key.time < 2 ^ 62 }
+    requires wires { WiringFits wires.now }
+    requires action { ActionFits action }
+    ensures pending { OnOk result (pending.new ≡ insert_all (made wires.now component key.time action) pending.old) }
+    ensures lines { OnOk result (lines.new.items ≡ lines.old.items ++ printed key (action ∷ [])) }
+{
+    let now = key.time;
+    match action {
+        Action::Send { port, extra, load } => {
+            if let Some((line, latency)) = wires.line_from(component, port) {
+                let key = Key {
+                    time: now + extra + latency,
+                    class: ARRIVAL,
+                    line,
+                };
+                pending.insert(Event {
+                    key,
+                    load: Some(load),
+                })?;
+            }
+        }
+        Action::SelfSend {
+            line: index,
+            delay,
+            load,
+        } => {
+            if let Some(line) = wires.own_from(component, index) {
+                let key = Key {
+                    time: now + delay,
+                    class: ARRIVAL,
+                    line,
+                };
+                pending.insert(Event {
+                    key,
+                    load: Some(load),
+                })?;
+            }
+        }
+        Action::ClockOn { clock } => {
+            if let Some((line, period)) = wires.clock_of(component, clock) {
+                let key = Key {
+                    time: now + (period - now % period),
+                    class: TICK,
+                    line,
+                };
+                pending.insert(Event { key, load: None })?;
+            }
+        }
+        Action::ClockOff { .. } => {}
+        Action::Print { text } => lines.push(Line { key, text })?,
+    }
+    Ok(())
+}
+
+// Does what the actions ask for, in order.
+fn carry_out_all<E: Element>(
+    wires: &Wires,
+    component: u32,
+    key: Key,
+    acts: &mut Acts<E::Load>,
+    pending: &mut Pending<E::Load>,
+    lines: &mut Vec<Line>,
+) -> Result<(), AllocError>
+    requires early { key.time < 2 ^ 62 }
+    requires wires { WiringFits wires.now }
+    requires actions { ActionsFit acts.old }
+    ensures pending { OnOk result (pending.new ≡ insert_all (made_all wires.now component key.time acts.old) pending.old) }
+    ensures lines { OnOk result (lines.new.items ≡ lines.old.items ++ printed key acts.old) }
+{
+    while let Some(action) = acts.take() {
+        carry_out::<E>(wires, component, key, action, pending, lines)?;
+    }
+    Ok(())
+}
+
+// The next tick of the clock that ticked, unless one of the actions turns it off.
+fn next_tick<L: Copy>(
+    wires: &Wires,
+    component: u32,
+    now: u64,
+    cause: &Cause<L>,
+    acts: &Acts<L>,
+) -> Option<Event<L>>
+    requires early { now < 2 ^ 62 }
+    requires wires { WiringFits wires.now }
+    ensures { option_to_list result ≡ again wires.now component now cause.now acts.now }
+{
+    match cause {
+        Cause::Tick { clock } => {
+            if acts.turns_off(*clock) {
+                return None;
+            }
+            match wires.clock_of(component, *clock) {
+                Some((line, period)) => Some(Event {
+                    key: Key {
+                        time: now + period,
+                        class: TICK,
+                        line,
+                    },
+                    load: None,
+                }),
+                None => None,
+            }
+        }
+        _ => None,
+    }
+}
+
+// An element is told of an event, and what it asks for is done. The buffer of actions is used again.
+fn react<E: Element>(
+    wires: &Wires,
+    component: u32,
+    element: &mut E,
+    key: Key,
+    cause: &Cause<E::Load>,
+    pending: &mut Pending<E::Load>,
+    lines: &mut Vec<Line>,
+    acts: &mut Acts<E::Load>,
+) -> Result<(), AllocError>
+    requires early { key.time < 2 ^ 62 }
+    requires wires { WiringFits wires.now }
+    requires meets { E.kind.Meets element.old key.time cause.now }
+    requires fit { ActionsFit (E.kind.handled element.old key.time cause.now).actions }
+    ensures element { OnOk result (element.new ≡ (E.kind.handled element.old key.time cause.now).state) }
+    ensures pending { OnOk result (let acts = (E.kind.handled element.old key.time cause.now).actions in pending.new ≡ insert_all (again wires.now component key.time cause.now acts) (insert_all (made_all wires.now component key.time acts) pending.old)) }
+    ensures lines { OnOk result (lines.new.items ≡ lines.old.items ++ printed key (E.kind.handled element.old key.time cause.now).actions) }
+{
+    acts.clear();
+    element.handle(key.time, cause, acts)?;
+    let next = next_tick(wires, component, key.time, cause, acts);
+    carry_out_all::<E>(wires, component, key, acts, pending, lines)?;
+    if let Some(tick) = next {
+        pending.insert(tick)?;
+    }
+    Ok(())
+}
+
+/// What follows an event that was taken.
+pub fn perform<E: Element>(
+    wires: &Wires,
+    elements: &mut Vec<E>,
+    event: Event<E::Load>,
+    pending: &mut Pending<E::Load>,
+    lines: &mut Vec<Line>,
+    acts: &mut Acts<E::Load>,
+) -> Result<(), AllocError>
+    requires early { event.key.time < 2 ^ 62 }
+    requires wires { WiringFits wires.now }
+    requires may { MayReact E.kind wires.now elements.old.items event }
+    ensures state { OnOk result (state_of elements.new.items pending.new event.key.time ≡ step_told E.kind.handled wires.now elements.old.items pending.old event.key.time (told wires.now event)) }
+    ensures lines { OnOk result (lines.new.items ≡ lines.old.items ++ lines_told E.kind.handled elements.old.items event.key (told wires.now event)) }
+{
+    let Some((component, cause)) = wires.told(&event) else {
+        return Ok(());
+    };
+    let place = component as usize;
+    if place >= elements.len() {
+        return Ok(());
+    }
+    let element = &mut elements[place];
+    react(
+        wires, component, element, event.key, &cause, pending, lines, acts,
+    )?;
+    Ok(())
+}

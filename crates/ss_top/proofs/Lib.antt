@@ -1,0 +1,8 @@
+pub mod Taking
+pub mod Pieces
+pub mod Texts
+pub mod Endings
+pub mod Judging
+pub mod Simulating
+pub mod Complete
+pub mod Worded

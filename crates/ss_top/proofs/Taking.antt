@@ -1,0 +1,34 @@
+-- What a sink has taken of a text that is written in parts.
+use Rattle.std.proofs.Common.{◌≡◌, ℕ, ◌<◌, ◌≤◌, List, [], ◌∷◌, ◌++◌, Option, Some, None, refl, ap, sym, ◌∙◌, subst, arith, append_assoc}
+use Rattle.std.proofs.lemmas.List.{append-nil}
+use Rattle.ss_edge.specs.Edge.{more, TookSome, Rose}
+use Rattle.ss_top.specs.Answer.{line}
+use Rattle.ss_top.specs.Printing.{Told}
+
+pub more-both : (a b : List ℕ) (o : Option (List ℕ)) → more b (more a o) ≡ more (a ++ b) o
+more-both a b None = refl
+more-both a b (Some t) = ap Some (append_assoc t a b)
+
+pub more-nothing : (o : Option (List ℕ)) → o ≡ more [] o
+more-nothing None = refl
+more-nothing (Some t) = ap Some (sym (append-nil t))
+
+pub took-first : (a b : List ℕ) (o n : Option (List ℕ)) → TookSome a o n → TookSome (a ++ b) o n
+took-first a b o n t = record { front = t.front; rest = t.rest ++ b; whole = ap (λ x. x ++ b) t.whole ∙ append_assoc t.front t.rest b; took = t.took }
+
+pub took-then : (a b : List ℕ) (o m n : Option (List ℕ)) → m ≡ more a o → TookSome b m n → TookSome (a ++ b) o n
+took-then a b o m n e t = record { front = a ++ t.front; rest = t.rest; whole = ap (λ x. a ++ x) t.whole ∙ sym (append_assoc a t.front t.rest); took = t.took ∙ ap (λ x. more t.front x) e ∙ more-both a t.front o }
+
+-- a line of two parts
+pub line-second : (a b : List ℕ) (o m n : Option (List ℕ)) → m ≡ more a o → TookSome b m n → TookSome (line (a ++ b)) o n
+line-second a b o m n e t = took-first (a ++ b) _ o n (took-then a b o m n e t)
+
+pub rose-first : (a b c d : ℕ) → a ≤ b → b ≤ c → c ≤ d → Rose b c → Rose a d
+rose-first a b c d h k l r = grind arith
+
+-- what was told in two parts
+pub told-two : (f b t u : List ℕ) (o n : Option (List ℕ)) (k l : ℕ) → f ≡ t → b ≡ u → Told (line (f ++ b)) o n k l → Told (line (t ++ u)) o n k l
+told-two f b t u o n k l e z h = subst (λ (x : List ℕ). Told (line x) o n k l) (ap (λ y. y ++ b) e ∙ ap (λ y. t ++ y) z) h
+
+pub told-at : (f b t : List ℕ) (o n : Option (List ℕ)) (k l : ℕ) → f ≡ t → b ≡ [] → Told (line (f ++ b)) o n k l → Told (line t) o n k l
+told-at f b t o n k l e z h = subst (λ (x : List ℕ). Told (line x) o n k l) (append-nil t) (told-two f b t [] o n k l e z h)

@@ -1,0 +1,83 @@
+//! Writing texts, and lines on the error output.
+
+ghost use Rattle.std.specs.Prelude.{◌≡◌, ◌≤◌, ◌++◌, map, OnOk, OnErr};
+ghost use Rattle.ss_edge.specs.Edge.{Rose, more};
+ghost use Rattle.ss_model.specs.End.{text_of};
+ghost use Rattle.ss_top.specs.Answer.{line};
+ghost use Rattle.ss_top.specs.Message.{message_text};
+ghost use Rattle.ss_top.specs.Printing.{Told, more_all, StopsIn};
+
+use ss_edge::{Failed, Sink, write_all};
+use ss_element::Line;
+
+/// Writes the texts of lines, each by one call.
+pub fn write_lines<K: Sink>(out: &mut K, lines: &[Line]) -> Result<(), Failed>
+    ensures all { OnOk result (K.taken out.new ≡ more_all (map text_of lines.now) (K.taken out.old)) }
+    ensures some { OnErr result (StopsIn (map text_of lines.now) (K.taken out.old) (K.taken out.new)) }
+    ensures faults { K.faults out.old ≤ K.faults out.new }
+    ensures cause { OnErr result (Rose (K.faults out.old) (K.faults out.new)) }
+{
+    for line in lines {
+        match write_all(out, line.text.as_str().as_bytes()) {
+            Ok(()) => (),
+            Err(_) => return Err(Failed),
+        }
+    }
+    Ok(())
+}
+
+/// What a refusal's line says in front of what it names.
+#[derive(Clone, Copy, Debug, PartialEq, Eq)]
+pub enum Message {
+    Usage,
+    NotText,
+    Unbuilt,
+    GraphBytes,
+    ReadFault,
+    WriteFault,
+    OutputFault,
+    NoMemory,
+}
+
+#[tactic(auto, unfolding(crate::specs::Message::message_text))]
+fn text_of_message(message: Message) -> &'static [u8]
+    ensures { result.now ≡ message_text message }
+{
+    match message {
+        Message::Usage => b"sst: usage: ",
+        Message::NotText => b"sst: text: ",
+        Message::Unbuilt => b"sst: graph: Unbuilt graph",
+        Message::GraphBytes => b"sst: limit: graph bytes 67108865",
+        Message::ReadFault => b"sst: read fault: ",
+        Message::WriteFault => b"sst: write fault: ",
+        Message::OutputFault => b"sst: write fault: output",
+        Message::NoMemory => b"sst: no memory",
+    }
+}
+
+/// Writes a line that says a message and what it names. It takes no memory.
+pub fn tell<R: Sink>(err: &mut R, message: Message, named: &[u8])
+    ensures told { Told (line (message_text message ++ named.now)) (R.taken err.old) (R.taken err.new) (R.faults err.old) (R.faults err.new) }
+    ensures faults { R.faults err.old ≤ R.faults err.new }
+{
+    match write_all(err, text_of_message(message)) {
+        Ok(()) => (),
+        Err(_) => return,
+    }
+    match write_all(err, named) {
+        Ok(()) => (),
+        Err(_) => return,
+    }
+    match write_all(err, b"\n".as_slice()) {
+        Ok(()) => (),
+        Err(_) => (),
+    }
+}
+
+/// Writes a line that says a message alone. It takes no memory.
+pub fn tell_plain<R: Sink>(err: &mut R, message: Message)
+    ensures told { Told (line (message_text message)) (R.taken err.old) (R.taken err.new) (R.faults err.old) (R.faults err.new) }
+    ensures faults { R.faults err.old ≤ R.faults err.new }
+{
+    tell(err, message, b"".as_slice());
+}

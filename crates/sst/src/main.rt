@@ -1,0 +1,66 @@
+//! The program.
+#![tactic(auto)]
+
+mod edge;
+
+use edge::{FileShelf, WriterSink};
+use ss_edge::Sink;
+use ss_top::{Message, Status, sst_here, tell, tell_plain};
+use ss_units::Text;
+use std::io::ErrorKind;
+use std::process::ExitCode;
+use std::rt::Env;
+use std::{env, io};
+
+/// The words behind the program's name.
+fn words<R: Env + AllocGlobal>(rt: &R) -> io::Result<Vec<Text>> {
+    let mut all = Vec::new(rt.alloc());
+    for (i, word) in env::args(rt)?.enumerate() {
+        if i > 0 {
+            all.push(Text::new(rt.alloc(), word.as_str())?)?;
+        }
+    }
+    Ok(all)
+}
+
+fn code(status: Status) -> u8 {
+    match status {
+        Status::Whole => 0,
+        Status::Usage => 1,
+        Status::Text => 2,
+        Status::Graph => 3,
+        Status::Limit => 4,
+        Status::ReadFault => 6,
+        Status::WriteFault => 7,
+        Status::NoMemory => 8,
+    }
+}
+
+/// The words, or how the call ends without them: a word that isn't UTF-8 is no word of the grammar.
+fn words_or_end<R: Env + AllocGlobal, W: Sink>(rt: &R, err: &mut W) -> Result<Vec<Text>, Status> {
+    match words(rt) {
+        Ok(words) => Ok(words),
+        Err(e) => {
+            if e.kind() == ErrorKind::OutOfMemory {
+                tell_plain(err, Message::NoMemory);
+                Err(Status::NoMemory)
+            } else {
+                tell(err, Message::Usage, b"words".as_slice());
+                Err(Status::Usage)
+            }
+        }
+    }
+}
+
+fn main(rt: HostRuntime) -> ExitCode {
+    let mut err = WriterSink::new(rt.stderr());
+    let status = match words_or_end(&rt, &mut err) {
+        Err(status) => status,
+        Ok(words) => {
+            let mut shelf = FileShelf::new(&rt);
+            let mut out = WriterSink::new(io::writer(&rt));
+            sst_here(rt.alloc(), words.as_slice(), &mut shelf, &mut out, &mut err)
+        }
+    };
+    ExitCode::from(code(status))
+}
