@@ -37,13 +37,13 @@ returned p = record p { got = min (p.got + 1) p.count }
 
 abbrev pub pinger_handled : Pinger → ℕ → Cause Load → Reaction Pinger Load
 pinger_handled p now cause.Start =
-  if nat_lt 0 p.count
-  then record { state = thrown p 1 now; actions = sends 1 ∷ [] }
-  else still p
+    if nat_lt 0 p.count
+    then record { state = thrown p 1 now; actions = sends 1 ∷ [] }
+    else still p
 pinger_handled p now (cause.Link port (load.Core n)) =
-  if nat_lt p.sent p.count
-  then record { state = thrown (returned p) (p.sent + 1) now; actions = action.Print (pong_text p.name n now) ∷ sends (p.sent + 1) ∷ [] }
-  else record { state = returned p; actions = action.Print (pong_text p.name n now) ∷ [] }
+    if nat_lt p.sent p.count
+    then record { state = thrown (returned p) (p.sent + 1) now; actions = action.Print (pong_text p.name n now) ∷ sends (p.sent + 1) ∷ [] }
+    else record { state = returned p; actions = action.Print (pong_text p.name n now) ∷ [] }
 pinger_handled p now (cause.Own line x) = still p
 pinger_handled p now (cause.Tick clock) = still p
 

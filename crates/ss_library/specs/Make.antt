@@ -47,8 +47,8 @@ row_check i ps r = check (is_some (param_value ps r)) (fault.Param (at (codes "c
 -- component i has a kind, and its parameters are as its kind's table has them
 unfoldable pub component_checks : ℕ → Part → List (Check MakeFault)
 component_checks i p =
-  check (is_some (kind_named p.kind)) (fault.UnknownType (at (codes "components") i ++ codes ".type"))
-  ∷ map (row_check i p.params) (params_of (kind_named p.kind))
+    check (is_some (kind_named p.kind)) (fault.UnknownType (at (codes "components") i ++ codes ".type"))
+    ∷ map (row_check i p.params) (params_of (kind_named p.kind))
 
 unfoldable pub components_checks : List Part → List (Check MakeFault)
 components_checks ps = each_numbered component_checks 0 ps
@@ -123,9 +123,9 @@ all_ports_checks ends ps = each_numbered (ports_checks ends) 0 ps
 -- all checks of a graph, in their order
 unfoldable pub make_checks : Graph → List (Check MakeFault)
 make_checks g =
-  components_checks g.components
-  ++ (links_checks g.components g.links
-  ++ all_ports_checks (ends_of g.links) g.components)
+    components_checks g.components
+    ++ (links_checks g.components g.links
+    ++ all_ports_checks (ends_of g.links) g.components)
 
 -- the self lines and clocks of component i: an echo has a self line
 abbrev pub inner_by : ℕ → Option KindName → List InnerLine

@@ -115,7 +115,11 @@ impl Pinger {
 }
 
 impl Echo {
-    pub(crate) fn handle(&mut self, cause: &Cause<Load>, acts: &mut Acts<Load>) -> Result<(), AllocError>
+    pub(crate) fn handle(
+        &mut self,
+        cause: &Cause<Load>,
+        acts: &mut Acts<Load>,
+    ) -> Result<(), AllocError>
         ensures state { OnOk result (self.new ≡ (echo_handled self.old cause.now).state) }
         ensures actions { OnOk result (acts.new ≡ acts.old ++ (echo_handled self.old cause.now).actions) }
     {

@@ -51,7 +51,11 @@ fn value_at(form: Form, text: &str) -> Option<u64>
         },
         Form::Time { least, most } => match ps_of(text.as_bytes()) {
             Err(_) => None,
-            Ok(n) => if least <= n && n <= most { Some(n) } else { None },
+            Ok(n) => if least <= n && n <= most {
+                Some(n)
+            } else {
+                None
+            },
         },
     }
 }

@@ -20,11 +20,13 @@ fn crosses<T: Send + Sync + Drop>(_value: T) {}
 /// What an action sends, and whether it prints the text.
 fn sent(action: Option<&Action<Load>>) -> Option<(u16, u64, u32)> {
     match action {
-        Some(Action::Send {
-            port,
-            extra,
-            load: Load::Core { n },
-        }) => Some((*port, *extra, *n)),
+        Some(
+            Action::Send {
+                port,
+                extra,
+                load: Load::Core { n },
+            },
+        ) => Some((*port, *extra, *n)),
         _ => None,
     }
 }
@@ -81,7 +83,16 @@ fn an_echo_waits(rt: HostRuntime) -> Result<(), Fail> {
     let mut acts = Acts::new(rt.alloc());
     let load = Load::Core { n: 9 };
     echo.handle(10, &Cause::Link { port: 0, load }, &mut acts)?;
-    assert!(rt; matches!(acts.get(0), Some(Action::SelfSend { line: 0, delay: 5, .. })));
+    assert!(rt;
+        matches!(
+            acts.get(0),
+            Some(Action::SelfSend {
+                line: 0,
+                delay: 5,
+                ..
+            })
+        )
+    );
     acts.clear();
     Ok(())
 }
@@ -91,7 +102,9 @@ fn a_graph_is_made(rt: HostRuntime) -> Result<(), Fail> {
     let graph = read(rt.alloc(), GRAPH.as_bytes()).ok().ok_or("a graph")?;
     let model = make(rt.alloc(), &graph).ok().ok_or("a model")?;
     assert_eq!(rt; model.elements.len(), 2);
-    assert!(rt; matches!(model.elements.get(0), Some(Any::Pinger(p)) if p.count == 3 && p.name.as_str() == "ping"));
+    assert!(rt;
+        matches!(model.elements.get(0), Some(Any::Pinger(p)) if p.count == 3 && p.name.as_str() == "ping")
+    );
     assert!(rt; matches!(model.elements.get(1), Some(Any::Echo(e)) if e.delay == 0));
     assert_eq!(rt; model.wires.counts(), (2, 1, 0));
     assert_eq!(rt; model.wires.line_from(0, 0), Some((0, 1000)));
@@ -178,15 +191,69 @@ fn fault_of(answer: Result<Model<Any>, MakeFault>) -> (&'static str, Option<Text
 #[test]
 fn refusals(rt: HostRuntime) -> Result<(), Fail> {
     for (kind, name, value, fault, place) in [
-        ("core.ping", "count", "1", "UnknownType", "components[0].type"),
-        ("core.pinger", "count", "01", "Param", "components[0].params.count"),
-        ("core.pinger", "count", "", "Param", "components[0].params.count"),
-        ("core.pinger", "count", "4294967296", "Param", "components[0].params.count"),
-        ("core.pinger", "count", "4294967295", "PortUnlinked", "components[0].port"),
-        ("core.pinger", "other", "x", "PortUnlinked", "components[0].port"),
-        ("core.echo", "delay", "0", "Param", "components[0].params.delay"),
-        ("core.echo", "delay", "2s", "Param", "components[0].params.delay"),
-        ("core.echo", "delay", "1s", "PortUnlinked", "components[0].port"),
+        (
+            "core.ping",
+            "count",
+            "1",
+            "UnknownType",
+            "components[0].type",
+        ),
+        (
+            "core.pinger",
+            "count",
+            "01",
+            "Param",
+            "components[0].params.count",
+        ),
+        (
+            "core.pinger",
+            "count",
+            "",
+            "Param",
+            "components[0].params.count",
+        ),
+        (
+            "core.pinger",
+            "count",
+            "4294967296",
+            "Param",
+            "components[0].params.count",
+        ),
+        (
+            "core.pinger",
+            "count",
+            "4294967295",
+            "PortUnlinked",
+            "components[0].port",
+        ),
+        (
+            "core.pinger",
+            "other",
+            "x",
+            "PortUnlinked",
+            "components[0].port",
+        ),
+        (
+            "core.echo",
+            "delay",
+            "0",
+            "Param",
+            "components[0].params.delay",
+        ),
+        (
+            "core.echo",
+            "delay",
+            "2s",
+            "Param",
+            "components[0].params.delay",
+        ),
+        (
+            "core.echo",
+            "delay",
+            "1s",
+            "PortUnlinked",
+            "components[0].port",
+        ),
     ] {
         let graph = lone(rt.alloc(), kind, name, value)?;
         let (found, at) = fault_of(make(rt.alloc(), &graph));

@@ -13,5 +13,5 @@ pub returns-else-not-row : goal.returns-else-not-row
 unfolding links_checks
 returns-else-not-row c =
     let e : is_some (link_from 0 c.args.wires.now.links c.args.index c.args.number) ≡ is_taken (ends_of c.args.graph.now.links) (c.args.index, port_text c.args.row.now.name)
-          = rw c.requires.lines (linked_is c.args.graph.now.components c.args.part.now c.args.row.now c.args.index c.args.number 0 0 c.args.graph.now.links c.requires.there c.requires.row c.requires.known) in
+    = rw c.requires.lines (linked_is c.args.graph.now.components c.args.part.now c.args.row.now c.args.index c.args.number 0 0 c.args.graph.now.links c.requires.there c.requires.row c.requires.known) in
     grind (arith, e, common_steps)
