@@ -29,6 +29,7 @@ fn shelf_with(alloc: Global, graph: &str) -> Result<MemShelf, AllocError> {
 }
 
 /// A call, and what it must leave.
+#[derive(Drop)]
 struct Case<'a> {
     words: &'a [Text],
     graph: &'a str,
