@@ -8,7 +8,7 @@ use Rattle.ss_model.specs.Wiring.{Wiring, link_from, own_from, clock_from, link_
 use Rattle.ss_element.specs.Index.{first_of, only_if, at, is_own, is_clock, Indexed}
 
 -- one link line more
-link_from-append : (n : ℕ) (ls : List LinkLine) (l : LinkLine) (c p : ℕ) → link_from n (ls ++ l ∷ []) c p ≡ first_of (link_from n ls c p) (only_if (eqb l.sender c && eqb l.out_port p) (n + length ls, l.latency))
+pub link_from-append : (n : ℕ) (ls : List LinkLine) (l : LinkLine) (c p : ℕ) → link_from n (ls ++ l ∷ []) c p ≡ first_of (link_from n ls c p) (only_if (eqb l.sender c && eqb l.out_port p) (n + length ls, l.latency))
 link_from-append n [] l c p = ap (λ k. only_if (eqb l.sender c && eqb l.out_port p) (k, l.latency)) {x = n} {y = n + 0} (omega arith)
 link_from-append n (x ∷ ls) l c p =
     let step = link_from-append (n + 1) ls l c p ∙ ap (λ k. first_of (link_from (n + 1) ls c p) (only_if (eqb l.sender c && eqb l.out_port p) (k, l.latency))) {x = n + 1 + length ls} {y = n + length (x ∷ ls)} (omega arith) in
@@ -19,13 +19,13 @@ link_from-append n (x ∷ ls) l c p =
     at_test false e = e
 
 -- one self line or clock more
-abbrev own_here : ℕ → InnerLine → ℕ → ℕ → Option ℕ
+abbrev pub own_here : ℕ → InnerLine → ℕ → ℕ → Option ℕ
 own_here k l c i = own_from k (l ∷ []) c i
 
-abbrev clock_here : ℕ → InnerLine → ℕ → ℕ → Option (ℕ × ℕ)
+abbrev pub clock_here : ℕ → InnerLine → ℕ → ℕ → Option (ℕ × ℕ)
 clock_here k l c i = clock_from k (l ∷ []) c i
 
-own_from-append : (n : ℕ) (ls : List InnerLine) (l : InnerLine) (c i : ℕ) → own_from n (ls ++ l ∷ []) c i ≡ first_of (own_from n ls c i) (own_here (n + length ls) l c i)
+pub own_from-append : (n : ℕ) (ls : List InnerLine) (l : InnerLine) (c i : ℕ) → own_from n (ls ++ l ∷ []) c i ≡ first_of (own_from n ls c i) (own_here (n + length ls) l c i)
 own_from-append n [] l c i = ap (λ k. own_here k l c i) {x = n} {y = n + 0} (omega arith)
 own_from-append n (inner.Own d j ∷ ls) l c i =
     let step = own_from-append (n + 1) ls l c i ∙ ap (λ k. first_of (own_from (n + 1) ls c i) (own_here k l c i)) {x = n + 1 + length ls} {y = n + length (inner.Own d j ∷ ls)} (omega arith) in
@@ -37,7 +37,7 @@ own_from-append n (inner.Own d j ∷ ls) l c i =
 own_from-append n (inner.Clock d j period ∷ ls) l c i =
     own_from-append (n + 1) ls l c i ∙ ap (λ k. first_of (own_from (n + 1) ls c i) (own_here k l c i)) {x = n + 1 + length ls} {y = n + length (inner.Clock d j period ∷ ls)} (omega arith)
 
-clock_from-append : (n : ℕ) (ls : List InnerLine) (l : InnerLine) (c i : ℕ) → clock_from n (ls ++ l ∷ []) c i ≡ first_of (clock_from n ls c i) (clock_here (n + length ls) l c i)
+pub clock_from-append : (n : ℕ) (ls : List InnerLine) (l : InnerLine) (c i : ℕ) → clock_from n (ls ++ l ∷ []) c i ≡ first_of (clock_from n ls c i) (clock_here (n + length ls) l c i)
 clock_from-append n [] l c i = ap (λ k. clock_here k l c i) {x = n} {y = n + 0} (omega arith)
 clock_from-append n (inner.Own d j ∷ ls) l c i =
     clock_from-append (n + 1) ls l c i ∙ ap (λ k. first_of (clock_from (n + 1) ls c i) (clock_here k l c i)) {x = n + 1 + length ls} {y = n + length (inner.Own d j ∷ ls)} (omega arith)

@@ -8,7 +8,8 @@ use Rattle.ss_graph.specs.declared.fault.GraphFault.{GraphFault}
 use Rattle.ss_graph.specs.declared.graph.Part.{Part}
 use Rattle.ss_graph.specs.Checks.{Check, first_fault, Fails}
 use Rattle.ss_graph.specs.Faults.{is_memory}
-use Rattle.ss_graph.specs.Components.{component_checks, components_checks, name_in, is_new, part_of, parts_of, names_of, items_count}
+use Rattle.ss_graph.specs.Components.{name_in, is_new, items_count}
+use Rattle.ss_graph.specs.Parts.{component_checks, components_checks, part_of, parts_of, names_of}
 use Rattle.ss_graph.proofs.Judging.{first_fault_append, fails_front}
 
 pub dropped : (vs : List Value) (i : ℕ) (x : Value) → i < length vs → x ≡ get_or vs i x → drop i vs ≡ x ∷ drop (i + 1) vs

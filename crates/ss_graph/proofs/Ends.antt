@@ -3,7 +3,8 @@ use Rattle.std.proofs.Common.{◌≡◌, ℕ, List, [], ◌∷◌, Bool, ap, ref
 use Rattle.std.specs.Prelude.{nat_eq}
 use Rattle.std.specs.List.{list_any}
 use Rattle.std.specs.String.{string_eq}
-use Rattle.ss_graph.specs.Links.{is_taken, seen_ends, has_text, port_checks, end_place}
+use Rattle.ss_graph.specs.Links.{is_taken, seen_ends, port_checks, end_place}
+use Rattle.ss_graph.specs.Components.{has_text}
 use Rattle.ss_graph.specs.Checks.{first_fault}
 use Rattle.ss_graph.specs.declared.fault.GraphFault.TheVariants.{PortTaken}
 use Rattle.serde_json.specs.Data.{Data}

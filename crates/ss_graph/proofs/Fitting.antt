@@ -24,9 +24,10 @@ use Rattle.ss_graph.specs.Checks.{Check, check, first_fault, or_else, at, Judged
 use Rattle.ss_graph.specs.Faults.{is_memory}
 use Rattle.ss_graph.specs.declared.graph.Graph.{Graph}
 use Rattle.ss_graph.specs.Options.{ranged, time_or, time_of, the, time_checks, stop_in, period_in, stop_of, options_checks, options_of, fits_if, is_object, options_in}
-use Rattle.ss_graph.specs.Components.{or_null, object_checks, named_checks, name_checks, fresh_checks, kind_checks, params_checks, delays_checks, params_in, component_checks, components_checks, name_in, names_of, parts_of, place_in, is_new, part_items, items_count, items_in, part_list_checks, parts_checks, text_in}
+use Rattle.ss_graph.specs.Components.{or_null, object_checks, named_checks, name_checks, fresh_checks, name_in, place_in, is_new, items_count, items_in, text_in}
+use Rattle.ss_graph.specs.Parts.{all_params_checks, rest_checks, kind_checks, component_checks, components_checks, names_of, parts_of, part_items, part_list_checks, parts_checks}
 use Rattle.ss_graph.specs.Links.{join_of, reach_checks, port_checks, latency_checks, end_checks, end_of, end_key, end_place, component_in, is_taken, same_end, side_checks, crossing_checks, is_lasting, line_latency, left_of, right_of, link_checks, links_checks, joins_of, link_items, link_list_checks, joins_checks}
-use Rattle.ss_graph.specs.Judge.{shared_checks, head_checks, built_checks, value_checks, text_checks, json, graph_of, graph_of_value}
+use Rattle.ss_graph.specs.Judge.{shared_checks, head_checks, value_checks, text_checks, json, graph_of, graph_of_value}
 use Rattle.ss_graph.specs.Fit.{IsWithin, IsSoundLink, IsFit, ends_of}
 use Rattle.ss_graph.proofs.Judging.{first_fault_append}
 
@@ -56,7 +57,7 @@ fresh_component : (i : ℕ) (fresh : Bool) (d : Data) → first_fault (component
 unfolding component_checks
 fresh_component i fresh d h =
     let named = named_checks (at (codes "components") i ++ codes ".name") fresh (get (codes "name") d) in
-    let rest = kind_checks i (get (codes "type") d) ++ (params_checks i (get (codes "params") d) ++ delays_checks i (params_in d)) in
+    let rest = kind_checks i (get (codes "type") d) ++ (all_params_checks i d ++ rest_checks i d) in
     fresh_named (at (codes "components") i ++ codes ".name") fresh (get (codes "name") d) (both_none named rest (both_none (object_checks (at (codes "components") i) d) (named ++ rest) h).1).0
 
 not_any : (b : Bool) → not b ≡ true → b ≡ false
@@ -222,10 +223,10 @@ fit_value text d h =
     let each_link = links_checks names parts 0 [] [] (link_items d) in
     let links = link_list ++ each_link in
     let head = object_checks (codes "graph") d ++ (shared_checks d ++ options_checks d) in
-    let p = both_none head ((part_list ++ each_part) ++ (links ++ built_checks d)) h in
-    let q = both_none (part_list ++ each_part) (links ++ built_checks d) p.1 in
+    let p = both_none head ((part_list ++ each_part) ++ links) h in
+    let q = both_none (part_list ++ each_part) links p.1 in
     let c = both_none part_list each_part q.0 in
-    let l = both_none link_list each_link (both_none links (built_checks d) q.1).0 in
+    let l = both_none link_list each_link q.1 in
     let o = fit_options d (both_none (shared_checks d) (options_checks d) (both_none (object_checks (codes "graph") d) (shared_checks d ++ options_checks d) p.0).1).1 in
     let e : length names ≡ length parts = names_counted (part_items d) ∙ sym (parts_counted (part_items d)) in
     record {

@@ -1,6 +1,6 @@
 -- The first fault of lists that are put together.
 use Rattle.std.proofs.Common.{◌≡◌, List, [], ◌∷◌, ◌++◌, Bool, true, false, cond, Option, Some, None, Result, Err, refl}
-use Rattle.ss_graph.specs.Checks.{Check, first_fault, Fails, Judged, or_else}
+use Rattle.ss_graph.specs.Checks.{Check, first_fault, Fails, Judged, Passes, or_else}
 
 module _ {F : Type 0} where
   by_test : (b : Bool) (x y o : Option F) (f : F) → x ≡ or_else y o → cond b x (Some f) ≡ or_else (cond b y (Some f)) o
@@ -25,6 +25,9 @@ module _ {F : Type 0} where
   -- what a `?` hands on
   pub exits : {X Y : Type 0} (m : F → Bool) (view : X → Y) (r : Result X F) (y : Y) (cs : List (Check F)) (e f : F) → r ≡ Err f → f ≡ e → Fails m e (first_fault cs) → Judged m view r cs y
   exits m view r y cs e f p q h = rw (p, q) h
+
+  pub passes_exit : {X : Type 0} (m : F → Bool) (r : Result X F) (cs : List (Check F)) (e f : F) → r ≡ Err f → f ≡ e → Fails m e (first_fault cs) → Passes m r cs
+  passes_exit m r cs e f p q h = rw (p, q) h
 
   pub passes : (xs ys : List (Check F)) → first_fault xs ≡ None → first_fault ys ≡ None → first_fault (xs ++ ys) ≡ None
   passes xs ys h k = rw (first_fault_append xs ys, h) k

@@ -7,3 +7,4 @@ pub mod Members
 pub mod Lines
 pub mod Texts
 pub mod Fitting
+pub mod Params

@@ -15,4 +15,3 @@ is_memory (fault.UnknownComponent p) = false
 is_memory (fault.PortTaken p) = false
 is_memory (fault.Latency p) = false
 is_memory (fault.Limit k n) = false
-is_memory fault.Unbuilt = false

@@ -10,9 +10,9 @@ use Rattle.ss_graph.specs.declared.fault.LimitKind.TheVariants as limit
 use Rattle.ss_graph.specs.declared.graph.Graph.{Graph}
 use Rattle.ss_graph.specs.Checks.{Check, check}
 use Rattle.ss_graph.specs.Options.{fits_if, is_object, options_checks, options_of}
-use Rattle.ss_graph.specs.Components.{or_null, object_checks, part_items, names_of, parts_of, parts_checks}
+use Rattle.ss_graph.specs.Components.{or_null, object_checks}
+use Rattle.ss_graph.specs.Parts.{part_items, names_of, parts_of, parts_checks}
 use Rattle.ss_graph.specs.Links.{link_items, joins_of, joins_checks}
-use Rattle.ss_graph.specs.Built.{is_built}
 
 -- the value of a text, where it is one
 abbrev pub json : List ℕ → Option Data
@@ -36,9 +36,6 @@ shared_checks d =
     ∷ check (fits_if is_empty_object (get (codes "global_params") d)) fault.SharedParams
     ∷ []
 
-unfoldable pub built_checks : Data → List (Check GraphFault)
-built_checks d = check (is_built d) fault.Unbuilt ∷ []
-
 -- what stands before the components
 unfoldable pub head_checks : Data → List (Check GraphFault)
 head_checks d = object_checks (codes "graph") d ++ (shared_checks d ++ options_checks d)
@@ -48,8 +45,7 @@ unfoldable pub value_checks : Data → List (Check GraphFault)
 value_checks d =
     head_checks d
     ++ (parts_checks d
-    ++ (joins_checks (names_of (part_items d)) (parts_of (part_items d)) d
-    ++ built_checks d))
+    ++ joins_checks (names_of (part_items d)) (parts_of (part_items d)) d)
 
 -- all checks of a text, in their order
 unfoldable pub text_checks : List ℕ → List (Check GraphFault)

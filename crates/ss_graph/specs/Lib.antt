@@ -1,8 +1,11 @@
 pub mod Checks
+pub mod Owners
 pub mod Faults
 pub mod Options
 pub mod Components
+pub mod Subcomponents
+pub mod Statistics
+pub mod Parts
 pub mod Links
-pub mod Built
 pub mod Fit
 pub mod Judge

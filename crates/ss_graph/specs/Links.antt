@@ -13,7 +13,7 @@ use Rattle.ss_graph.specs.declared.graph.PortEnd.{PortEnd}
 use Rattle.ss_graph.specs.declared.graph.Join.{Join}
 use Rattle.ss_graph.specs.Checks.{Check, check, at}
 use Rattle.ss_graph.specs.Options.{fits_if, time_of, the}
-use Rattle.ss_graph.specs.Components.{text_in, or_null, object_checks, named_checks, is_new, name_in, place_in, items_count, items_in, is_array}
+use Rattle.ss_graph.specs.Components.{has_text, text_in, or_null, object_checks, named_checks, is_new, name_in, place_in, items_count, items_in, is_array}
 
 -- a place at the end of a side
 abbrev pub end_place : ℕ → List ℕ → List ℕ → List ℕ
@@ -31,9 +31,6 @@ abbrev pub seen_ends : List (ℕ × String Global) → List (ℕ × List ℕ)
 seen_ends es = map (λ e. (e.0, string_bytes e.1)) es
 
 -- ---- an end
-
-abbrev pub has_text : Option Data → Bool
-has_text o = is_some (option_and_then as_str o)
 
 unfoldable pub reach_checks : ℕ → List ℕ → Option ℕ → Option Data → List (Check GraphFault)
 reach_checks i side found o =

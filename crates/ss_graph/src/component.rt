@@ -6,16 +6,21 @@ ghost use Rattle.serde_json.specs.View.{view, members_view, items_view};
 ghost use Rattle.ss_graph.specs.Checks.{Judged, Passes, at};
 ghost use Rattle.ss_graph.specs.Faults.{is_memory};
 ghost use Rattle.ss_graph.specs.Options.{the};
-ghost use Rattle.ss_graph.specs.Components.{all_plain, object_checks, name_checks, fresh_checks, named_checks, is_new, text_in, name_in, value_text, param_checks, params_of, members_in, kind_checks, params_checks, delay_of, delay_checks, delays_checks, component_checks, part_of, components_checks, parts_of, names_of, part_list_checks, part_items, parts_checks};
+ghost use Rattle.ss_graph.specs.Components.{all_plain, object_checks, name_checks, fresh_checks, named_checks, is_new, text_in, name_in, params_checks, seen_params, delay_of};
+ghost use Rattle.ss_graph.specs.Statistics.{stats_of, stat_items, thread_in};
+ghost use Rattle.ss_graph.specs.Parts.{kind_checks, own_params, all_params, all_params_checks, rest_checks, component_checks, part_of, components_checks, parts_of, names_of, part_list_checks, part_items, parts_checks};
 
 use crate::fault::{GraphFault, LimitKind};
-use crate::graph::Part;
-use crate::place::{param_place, within_item};
+use crate::graph::{Part, StatAsk};
+use crate::param::{add_params, delays_at, listed};
+use crate::place::{Owner, within_item};
+use crate::statistic::{stats_at, thread_at};
+use crate::subcomponent::subs_at;
 use indexmap::IndexSet;
-use itoa::Buffer;
-use serde_json::{Map, Value};
-use ss_units::{Items, Text, ps_of};
-use std::alloc::{AllocError, Global};
+use serde_json::Value;
+use ss_units::{Items, Text};
+use std::alloc::Global;
+use std::collections::BTreeMap;
 
 /// Whether a name may have each of these bytes.
 fn is_plain(text: &[u8]) -> bool
@@ -98,44 +103,8 @@ pub fn new_name_at(
     Ok(name)
 }
 
-/// The text of a parameter's value.
-fn value_at(alloc: Global, value: &Value) -> Result<Option<Text>, AllocError>
-    ensures { IfOk result (λ t. t ≡ value_text (view value.now)) }
-{
-    if let Some(text) = value.as_str() {
-        return Ok(Some(Text::new(alloc, text)?));
-    }
-    if let Some(n) = value.as_u64() {
-        let mut buffer = Buffer::new();
-        return Ok(Some(Text::new(alloc, buffer.format(n))?));
-    }
-    match value.as_bool() {
-        None => Ok(None),
-        Some(b) => Ok(Some(Text::new(alloc, if b { "true" } else { "false" })?)),
-    }
-}
-
-/// The parameters of a component.
-#[tactic(auto, unfolding(crate::specs::Checks::first_fault, crate::specs::Components::param_checks))]
-fn params_at(
-    alloc: Global,
-    members: &Map<String, Value>,
-    index: usize,
-) -> Result<Vec<(Text, Text)>, GraphFault>
-    ensures { Judged is_memory (λ ps. ps.items) result (param_checks (at (codes "components") index ++ codes ".params") (members_view members.now.entries)) (params_of (members_view members.now.entries)) }
-{
-    let mut params = Vec::new(alloc);
-    for (name, value) in members.iter() {
-        let Some(text) = value_at(alloc, value)? else {
-            return Err(GraphFault::Form(param_place(alloc, index, name.as_str())?));
-        };
-        params.push((Text::new(alloc, name.as_str())?, text))?;
-    }
-    Ok(params)
-}
-
 /// The type of a component.
-#[tactic(auto, unfolding(crate::specs::Checks::first_fault, crate::specs::Components::kind_checks))]
+#[tactic(auto, unfolding(crate::specs::Checks::first_fault, crate::specs::Parts::kind_checks))]
 fn kind_at(alloc: Global, value: &Value, index: usize) -> Result<Text, GraphFault>
     ensures { Judged is_memory (λ t. t) result (kind_checks index (member_of (codes "type") (view value.now))) (text_in (member_of (codes "type") (view value.now))) }
 {
@@ -148,67 +117,69 @@ fn kind_at(alloc: Global, value: &Value, index: usize) -> Result<Text, GraphFaul
     Ok(Text::new(alloc, text)?)
 }
 
-/// The parameters, where they are there.
-#[tactic(auto, unfolding(crate::specs::Checks::first_fault, crate::specs::Components::params_checks, crate::specs::Components::param_checks))]
+/// A component's own parameters.
+#[tactic(auto, unfolding(crate::specs::Checks::first_fault))]
+fn own_params_at(
+    alloc: Global,
+    value: &Value,
+    index: usize,
+    params: &mut BTreeMap<String, Text>,
+) -> Result<(), GraphFault>
+    requires { params.old.entries ≡ [] }
+    ensures judged { Passes is_memory result (params_checks (at (codes "components") index) (member_of (codes "params") (view value.now))) }
+    ensures added { OnOk result (seen_params params.new.entries ≡ own_params (view value.now)) }
+{
+    add_params(alloc, value, Owner::Component(index), "", params)?;
+    Ok(())
+}
+
+/// A component's parameters, with those that its subcomponents are read as.
+#[tactic(auto, using(crate::proofs::Judging::first_fault_append), unfolding(crate::specs::Parts::all_params_checks))]
 fn all_params_at(
     alloc: Global,
     value: &Value,
     index: usize,
 ) -> Result<Vec<(Text, Text)>, GraphFault>
-    ensures { Judged is_memory (λ ps. ps.items) result (params_checks index (member_of (codes "params") (view value.now))) (params_of (members_in (member_of (codes "params") (view value.now)))) }
+    ensures { Judged is_memory (λ ps. ps.items) result (all_params_checks index (view value.now)) (all_params (view value.now)) }
 {
-    let Some(member) = value.get("params") else {
-        return Ok(Vec::new(alloc));
-    };
-    let Some(members) = member.as_object() else {
-        return Err(GraphFault::Form(within_item(alloc, "components", index, ".params")?));
-    };
-    params_at(alloc, members, index)
+    let mut params = BTreeMap::new(alloc);
+    own_params_at(alloc, value, index, &mut params)?;
+    subs_at(alloc, value, index, &mut params)?;
+    Ok(listed(alloc, params)?)
 }
 
-/// The time that a parameter gives, in picoseconds: 0 where it isn't there.
-fn delay_in(params: &[(Text, Text)], name: &str) -> Option<u64>
-    ensures { result ≡ delay_of name.now params.now }
-{
-    for param in params {
-        if param.0.as_str() == name {
-            return match ps_of(param.1.as_str().as_bytes()) {
-                Err(_) => None,
-                Ok(time) => if time <= 1 << 40 { Some(time) } else { None },
-            };
-        }
-    }
-    Some(0)
+/// What stands behind a component's parameters.
+#[derive(Drop)]
+struct Rest {
+    stats: Items<StatAsk>,
+    thread: Option<u32>,
+    input_latency: u64,
+    output_latency: u64,
 }
 
-/// What a component adds to the latency of its lines.
-#[tactic(auto, unfolding(crate::specs::Checks::first_fault, crate::specs::Components::delay_checks))]
-fn delay_at(
+#[tactic(auto, using(crate::proofs::Judging::first_fault_append), unfolding(crate::specs::Parts::rest_checks))]
+fn rest_at(
     alloc: Global,
+    value: &Value,
     params: &[(Text, Text)],
-    name: &str,
     index: usize,
-) -> Result<u64, GraphFault>
-    ensures { Judged is_memory (λ t. t) result (delay_checks index name.now params.now) (the (delay_of name.now params.now)) }
+) -> Result<Rest, GraphFault>
+    requires { params.now ≡ all_params (view value.now) }
+    ensures { Judged is_memory (λ r. r) result (rest_checks index (view value.now)) (record { stats = stats_of (stat_items (view value.now)); thread = thread_in (member_of (codes "partition") (view value.now)); input_latency = the (delay_of (codes "input_latency") params.now); output_latency = the (delay_of (codes "output_latency") params.now) }) }
 {
-    match delay_in(params, name) {
-        None => Err(GraphFault::Unit(param_place(alloc, index, name)?)),
-        Some(time) => Ok(time),
-    }
-}
-
-/// What a component adds to the latency of the lines that it receives from, and of those that it sends to.
-#[tactic(auto, using(crate::proofs::Judging::first_fault_append), unfolding(crate::specs::Components::delays_checks))]
-fn delays_at(alloc: Global, params: &[(Text, Text)], index: usize) -> Result<(u64, u64), GraphFault>
-    ensures { Judged is_memory (λ t. t) result (delays_checks index params.now) (the (delay_of (codes "input_latency") params.now), the (delay_of (codes "output_latency") params.now)) }
-{
-    let input = delay_at(alloc, params, "input_latency", index)?;
-    let output = delay_at(alloc, params, "output_latency", index)?;
-    Ok((input, output))
+    let stats = stats_at(alloc, value, index)?;
+    let thread = thread_at(alloc, value, index)?;
+    let (input_latency, output_latency) = delays_at(alloc, params, index)?;
+    Ok(Rest {
+        stats: Items::from_vec(stats),
+        thread,
+        input_latency,
+        output_latency,
+    })
 }
 
 /// A component, whose name must be new.
-#[tactic(auto, using(crate::proofs::Judging::first_fault_append), unfolding(crate::specs::Components::component_checks))]
+#[tactic(auto, using(crate::proofs::Judging::first_fault_append), unfolding(crate::specs::Parts::component_checks))]
 fn component_at(
     alloc: Global,
     value: &Value,
@@ -222,18 +193,20 @@ fn component_at(
     let name = new_name_at(alloc, value, "components", index, names)?;
     let kind = kind_at(alloc, value, index)?;
     let params = all_params_at(alloc, value, index)?;
-    let (input_latency, output_latency) = delays_at(alloc, &params, index)?;
+    let rest = rest_at(alloc, value, &params, index)?;
     Ok(Part {
         name,
         kind,
         params: Items::from_vec(params),
-        input_latency,
-        output_latency,
+        stats: rest.stats,
+        thread: rest.thread,
+        input_latency: rest.input_latency,
+        output_latency: rest.output_latency,
     })
 }
 
 /// The components, and their names in order.
-#[tactic(auto, using(crate::proofs::Judging::first_fault_append), unfolding(crate::specs::Components::components_checks))]
+#[tactic(auto, using(crate::proofs::Judging::first_fault_append), unfolding(crate::specs::Parts::components_checks))]
 fn components_at(
     alloc: Global,
     values: &[Value],
@@ -251,7 +224,7 @@ fn components_at(
 }
 
 /// The list of components.
-#[tactic(auto, using(crate::proofs::Components::counted_items), unfolding(crate::specs::Checks::first_fault, crate::specs::Components::part_list_checks))]
+#[tactic(auto, using(crate::proofs::Components::counted_items), unfolding(crate::specs::Checks::first_fault, crate::specs::Parts::part_list_checks))]
 fn part_list_at<'a>(alloc: Global, value: &'a Value) -> Result<&'a [Value], GraphFault>
     ensures judged { Judged is_memory (λ vs. items_view vs.now) result (part_list_checks (member_of (codes "components") (view value.now))) (part_items (view value.now)) }
     ensures few { IfOk result (λ vs. length vs.now ≤ 2 ^ 16) }
@@ -269,7 +242,7 @@ fn part_list_at<'a>(alloc: Global, value: &'a Value) -> Result<&'a [Value], Grap
 }
 
 /// All components, and their names in order.
-#[tactic(auto, using(crate::proofs::Judging::first_fault_append, crate::proofs::Components::counted_names), unfolding(crate::specs::Components::parts_checks))]
+#[tactic(auto, using(crate::proofs::Judging::first_fault_append, crate::proofs::Components::counted_names), unfolding(crate::specs::Parts::parts_checks))]
 pub fn parts_at(
     alloc: Global,
     value: &Value,

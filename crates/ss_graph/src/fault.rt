@@ -44,8 +44,6 @@ pub enum GraphFault {
     Latency(Text),
     /// This quantity passes its limit. The number is the one that passed.
     Limit(LimitKind, u64),
-    /// The graph is sound, but has something that isn't built yet.
-    Unbuilt,
     /// There was no memory.
     NoMemory,
 }

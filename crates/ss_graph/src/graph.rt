@@ -9,13 +9,27 @@ pub struct Options {
     pub exit_period: u64,
 }
 
-/// A component: its name, the name of its kind, its parameters in byte order of their names, and what
-/// it adds to the latency of each line that it receives from and sends to, in picoseconds.
+/// A statistic that is asked of a component: an accumulator, or a histogram with its least value, the width
+/// of a bin and the number of its bins. An accumulator's three numbers are 0.
+#[derive(Drop)]
+pub struct StatAsk {
+    pub name: Text,
+    pub histogram: bool,
+    pub least: u64,
+    pub width: u64,
+    pub bins: u32,
+}
+
+/// A component: its name, the name of its kind, its parameters in byte order of their names, the statistics
+/// that are asked of it, the thread that it names for itself, and what it adds to the latency of each line
+/// that it receives from and sends to, in picoseconds.
 #[derive(Drop)]
 pub struct Part {
     pub name: Text,
     pub kind: Text,
     pub params: Items<(Text, Text)>,
+    pub stats: Items<StatAsk>,
+    pub thread: Option<u32>,
     pub input_latency: u64,
     pub output_latency: u64,
 }

@@ -11,7 +11,6 @@ ghost use Rattle.ss_graph.specs.Judge.{json, shared_checks, is_empty_object, hea
 ghost use Rattle.ss_graph.specs.Fit.{IsFit};
 ghost use Rattle.ss_graph.specs.declared.fault.GraphFault.TheVariants.{NoMemory, Text as NotText};
 
-use crate::built::built_at;
 use crate::component::parts_at;
 use crate::fault::{GraphFault, LimitKind};
 use crate::graph::{Graph, Options};
@@ -87,7 +86,6 @@ fn graph_at(alloc: Global, text: &[u8], value: &Value) -> Result<Graph, GraphFau
     let mut names = IndexSet::new(alloc);
     let components = parts_at(alloc, value, &mut names)?;
     let links = joins_at(alloc, value, &names, &components)?;
-    built_at(value)?;
     Ok(Graph {
         text: copy_of(alloc, text)?,
         components: Items::from_vec(components),
@@ -126,14 +124,25 @@ fn value_of(alloc: Global, text: &[u8]) -> Result<Value, GraphFault>
 ///   (`Form`) with a `name` that is there (`Member`), is a text of at least one byte, none of them below 0x20 or
 ///   0x7F (`Form`), has at most 255 bytes (`Limit`) and is new (`DuplicateName`); a `type`, which is a text
 ///   (`Member`, `Form`); and `params`, which may be missing, else it is an object whose values are texts, whole
-///   numbers below 2^64 or truth values (`Form`). The parameters `input_latency` and `output_latency` are times
-///   of at most 2^40 ps (`Unit`), 0 where they are missing.
+///   numbers below 2^64 or truth values (`Form`).
+/// - A component's `subcomponents` may be missing, else they are an array of objects with the texts `slot_name`
+///   and `type`, with `params` like a component's, and without subcomponents of their own (each `Form`). One in
+///   slot `s` of type `t` is read as the parameter `s` with the value `t`, and its parameter `p` as `s.p`; a name
+///   that is then there twice is `Form` at the subcomponent.
+/// - A component's `statistics` may be missing, else they are an array of objects with the text `name`, the text
+///   `type`, which is `sst.AccumulatorStatistic` or `sst.HistogramStatistic` and the first where it is missing,
+///   and an object `params`, which may be missing. A histogram reads `minvalue` (0 where it is missing) and
+///   `binwidth` (5000) below 2^64 and `numbins` (100) below 2^32 in it: whole numbers, or texts of their digits
+///   without a leading 0. All faults are `Form`, those of the three numbers at the statistic.
+/// - A component's `partition` may be missing, else it is an object, and its `thread` is a whole number below 2^32
+///   where it is there (`Form`).
+/// - The parameters `input_latency` and `output_latency` are times of at most 2^40 ps (`Unit`), 0 where they are
+///   missing.
 /// - `links` may be missing, else it is an array (`Form`) of at most 262,144 items (`Limit`). Each is an object
 ///   with a `name` like a component's, new among the links, and then two ends, `left` and `right`: each is
 ///   there (`Member`), an object (`Form`) with the texts (`Form`) `component`, a component's name
 ///   (`UnknownComponent`), `port`, which no earlier end of this component has (`PortTaken`), and `latency`, a
 ///   time (`Unit`). The latencies of both lines of a link are from 1 ps to 2^40 ps (`Latency`).
-/// - Last, the graph has nothing that isn't built yet (`Unbuilt`).
 ///
 /// `NoMemory` may come at any place.
 #[tactic(auto, using(crate::proofs::Texts::judged_long, crate::proofs::Texts::judged_value, crate::proofs::Texts::judged_fault))]

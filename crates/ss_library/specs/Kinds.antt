@@ -4,9 +4,11 @@ use Rattle.ss_model.specs.declared.Cause.{Cause}
 use Rattle.ss_model.specs.declared.Cause.TheVariants as cause
 use Rattle.ss_model.specs.declared.Action.{Action}
 use Rattle.ss_model.specs.declared.Action.TheVariants as action
-use Rattle.ss_model.specs.Step.{Reaction}
+use Rattle.ss_model.specs.Step.{Reaction, State}
 use Rattle.ss_element.specs.Kind.{Kind}
-use Rattle.ss_safe.specs.Laws.{CauseFits}
+use Rattle.ss_model.specs.Wiring.{Wiring}
+use Rattle.ss_safe.specs.Laws.{Allowed, no_meters}
+use Rattle.ss_safe.specs.Safe.{Safe}
 use Rattle.ss_library.specs.declared.kinds.Load.{Load}
 use Rattle.ss_library.specs.declared.kinds.Load.TheVariants as load
 use Rattle.ss_library.specs.declared.kinds.Pinger.{Pinger}
@@ -94,12 +96,42 @@ abbrev pub AnyFits : Any → ℕ → Type 0
 AnyFits (any.Pinger p) now = PingerFits p
 AnyFits (any.Echo e) now = EchoFits e
 
+-- an element whose start event is to come: a pinger has sent nothing yet
+abbrev pub AnyFirst : Any → Type 0
+AnyFirst (any.Pinger p) = (p.sent ≡ 0) × (p.got ≡ 0) × (p.at ≡ 0)
+AnyFirst (any.Echo e) = Unit {0}
+
+-- an element whose start event was handled
+abbrev pub AnyBegun : Any → Type 0
+AnyBegun x = Unit {0}
+
 -- a number of a core kind is below 2^32
 abbrev pub LoadFits : Load → Type 0
 LoadFits (load.Core n) = n < 2 ^ 32
 
+abbrev pub CauseFits : Cause Load → Type 0
+CauseFits cause.Start = Unit {0}
+CauseFits (cause.Link port x) = LoadFits x
+CauseFits (cause.Own line x) = LoadFits x
+CauseFits (cause.Tick clock) = Unit {0}
+
 abbrev pub any_meets : Any → ℕ → Cause Load → Type 0
-any_meets x now why = AnyFits x now × CauseFits LoadFits why
+any_meets x now why = AnyFits x now × CauseFits why
 
 abbrev pub any_kind : Kind Any Load
 any_kind = record { handled = any_handled; Meets = any_meets; primary = any_primary; done = any_done; ticks = any_ticks }
+
+-- what may be of elements: all hear and send such numbers
+abbrev pub any_allowed : Allowed Any Load
+any_allowed = record {
+  fits = AnyFits;
+  hears = λ x why now. CauseFits why;
+  gives = λ x port y now. LoadFits y;
+  first = AnyFirst;
+  begun = AnyBegun;
+  meters = no_meters;
+}
+
+-- the states that a run can go on from at a time
+abbrev pub any_safe : Wiring → ℕ → State Any Load → Type 0
+any_safe = Safe any_kind any_allowed

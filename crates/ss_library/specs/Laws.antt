@@ -8,133 +8,114 @@ use Rattle.ss_model.specs.declared.Action.{Action}
 use Rattle.ss_model.specs.declared.Action.TheVariants as action
 use Rattle.ss_model.specs.Step.{Reaction}
 use Rattle.ss_element.specs.Kind.{ActionsFit}
+use Rattle.ss_element.specs.World.{World}
+use Rattle.ss_safe.specs.Laws.{MayTell, MayHear, SendsFit, ClockKeeps, turns, Keeps, KindLaws}
+use Rattle.ss_safe.specs.Kept.Flow.{no_flow}
+use Rattle.ss_safe.specs.Worlds.{world_of}
 use Rattle.ss_library.specs.declared.kinds.Load.{Load}
 use Rattle.ss_library.specs.declared.kinds.Load.TheVariants as load
 use Rattle.ss_library.specs.declared.kinds.Pinger.{Pinger}
 use Rattle.ss_library.specs.declared.kinds.Echo.{Echo}
-use Rattle.ss_element.specs.World.{World}
-use Rattle.ss_safe.specs.Safe.{Safe}
-use Rattle.ss_safe.specs.Worlds.{world_of}
-use Rattle.ss_safe.specs.Laws.{CauseFits, SendsFit, MayTell, KindLaws}
 use Rattle.ss_library.specs.declared.kinds.Any.{Any}
 use Rattle.ss_library.specs.declared.kinds.Any.TheVariants as any
-use Rattle.ss_library.specs.Kinds.{any_handled, any_primary, any_done, any_kind, AnyFits, sends, still, pong_text, thrown, returned, pinger_handled, pinger_done, PingerFits, echo_handled, EchoFits, LoadFits}
+use Rattle.ss_library.specs.Kinds.{any_handled, any_primary, any_done, any_ticks, any_kind, any_allowed, any_safe, AnyFits, AnyBegun, lift, sends, still, pong_text, thrown, returned, pinger_handled, pinger_done, PingerFits, echo_handled, EchoFits, LoadFits, CauseFits}
 
--- what is asked of a reaction to a load that may be
-record Keeps {S : Type 0} (Fits : S → Type 0) (done : S → Bool) (x : S) (r : Reaction S Load) : Type 0 where
-  works : Fits x → Fits r.state
-  acts : Fits x → ActionsFit r.actions
-  done_stays : done x ≡ true → done r.state ≡ true
+-- what became of an element that was told something
+abbrev Kept : Any → ℕ → Cause Load → Reaction Any Load → Type 0
+Kept x now why r = Keeps any_kind any_allowed x now why r
 
-keeps_still : {S : Type 0} (Fits : S → Type 0) (done : S → Bool) (x : S) → Keeps Fits done x (still x)
-keeps_still Fits done x = record { works = λ f. f; acts = λ f. tt; done_stays = λ d. d }
-
--- the pinger starts
-start_by : (p : Pinger) (now : ℕ) (b : Bool) → nat_lt 0 p.count ≡ b → Keeps PingerFits pinger_done p (cond b (record { state = thrown p 1 now; actions = sends 1 ∷ [] }) (still p))
-start_by p now true e = record {
-  works = λ f. record { count = f.count; sent = grind (arith, nat_tests); got = f.got };
-  acts = λ f. (omega arith, tt);
-  done_stays = λ d. d;
+kept : (x : Any) (now : ℕ) (why : Cause Load) (r : Reaction Any Load) → AnyFits r.state now → AnyBegun r.state → ActionsFit r.actions → SendsFit any_kind any_allowed x now r.actions → ((i : ℕ) → ClockKeeps why i (any_ticks x i) (turns i r.actions) (any_ticks r.state i)) → Kept x now why r
+kept x now why r fit begun acts sent clocks = record {
+  fit = fit;
+  begun = begun;
+  acts = acts;
+  sends = sent;
+  flow = no_flow x why r;
+  clocks = clocks;
+  hears = λ other at may. may;
+  gives = λ p y at may. may;
 }
-start_by p now false e = keeps_still PingerFits pinger_done p
 
+-- ---- the pinger
+
+start_by : (p : Pinger) (now : ℕ) (b : Bool) → nat_lt 0 p.count ≡ b → PingerFits p → Kept (any.Pinger p) now cause.Start (lift any.Pinger (cond b (record { state = thrown p 1 now; actions = sends 1 ∷ [] }) (still p)))
+start_by p now true e f = kept (any.Pinger p) now cause.Start (record { state = any.Pinger (thrown p 1 now); actions = sends 1 ∷ [] }) (record { count = f.count; sent = grind (arith, nat_tests); got = f.got }) tt (omega arith, tt) (omega arith, tt) (λ i. refl)
+start_by p now false e f = kept (any.Pinger p) now cause.Start (still (any.Pinger p)) f tt tt tt (λ i. refl)
+
+back_by : (p : Pinger) (port n now : ℕ) (b : Bool) → nat_lt p.sent p.count ≡ b → PingerFits p → Kept (any.Pinger p) now (cause.Link port (load.Core n)) (lift any.Pinger (cond b (record { state = thrown (returned p) (p.sent + 1) now; actions = action.Print (pong_text p.name n now) ∷ sends (p.sent + 1) ∷ [] }) (record { state = returned p; actions = action.Print (pong_text p.name n now) ∷ [] })))
+back_by p port n now true e f = kept (any.Pinger p) now (cause.Link port (load.Core n)) (record { state = any.Pinger (thrown (returned p) (p.sent + 1) now); actions = action.Print (pong_text p.name n now) ∷ sends (p.sent + 1) ∷ [] }) (record { count = f.count; sent = grind (arith, nat_tests); got = omega arith }) tt (tt, (omega arith, tt)) (tt, (grind (arith, nat_tests, f.count), tt)) (λ i. refl)
+back_by p port n now false e f = kept (any.Pinger p) now (cause.Link port (load.Core n)) (record { state = any.Pinger (returned p); actions = action.Print (pong_text p.name n now) ∷ [] }) (record { count = f.count; sent = f.sent; got = omega arith }) tt (tt, tt) (tt, tt) (λ i. refl)
+
+pinger_keeps : (p : Pinger) (now : ℕ) (why : Cause Load) → PingerFits p → Kept (any.Pinger p) now why (any_handled (any.Pinger p) now why)
+pinger_keeps p now cause.Start f = start_by p now (nat_lt 0 p.count) refl f
+pinger_keeps p now (cause.Link port (load.Core n)) f = back_by p port n now (nat_lt p.sent p.count) refl f
+pinger_keeps p now (cause.Own line y) f = kept (any.Pinger p) now (cause.Own line y) (still (any.Pinger p)) f tt tt tt (λ i. refl)
+pinger_keeps p now (cause.Tick clock) f = kept (any.Pinger p) now (cause.Tick clock) (still (any.Pinger p)) f tt tt tt (λ i. refl)
+
+-- once a pinger is done it stays so
 done_again : (got count : ℕ) → got == count ≡ true → min (got + 1) count == count ≡ true
 done_again got count d = grind (arith, nat_tests)
 
--- a number comes back
-back_by : (p : Pinger) (n now : ℕ) (b : Bool) → nat_lt p.sent p.count ≡ b → Keeps PingerFits pinger_done p (cond b (record { state = thrown (returned p) (p.sent + 1) now; actions = action.Print (pong_text p.name n now) ∷ sends (p.sent + 1) ∷ [] }) (record { state = returned p; actions = action.Print (pong_text p.name n now) ∷ [] }))
-back_by p n now true e = record {
-  works = λ f. record { count = f.count; sent = grind (arith, nat_tests); got = omega arith };
-  acts = λ f. (tt, (omega arith, tt));
-  done_stays = λ d. done_again p.got p.count d;
-}
-back_by p n now false e = record {
-  works = λ f. record { count = f.count; sent = f.sent; got = omega arith };
-  acts = λ f. (tt, tt);
-  done_stays = λ d. done_again p.got p.count d;
-}
+start_done : (p : Pinger) (now : ℕ) (b : Bool) → pinger_done p ≡ true → pinger_done (cond {A = Reaction Pinger Load} b (record { state = thrown p 1 now; actions = sends 1 ∷ [] }) (still p)).state ≡ true
+start_done p now true d = d
+start_done p now false d = d
 
-pinger_keeps : (p : Pinger) (now : ℕ) (why : Cause Load) → Keeps PingerFits pinger_done p (pinger_handled p now why)
-pinger_keeps p now cause.Start = start_by p now (nat_lt 0 p.count) refl
-pinger_keeps p now (cause.Link port (load.Core n)) = back_by p n now (nat_lt p.sent p.count) refl
-pinger_keeps p now (cause.Own line x) = keeps_still PingerFits pinger_done p
-pinger_keeps p now (cause.Tick clock) = keeps_still PingerFits pinger_done p
+back_done : (p : Pinger) (n now : ℕ) (b : Bool) → pinger_done p ≡ true → pinger_done (cond {A = Reaction Pinger Load} b (record { state = thrown (returned p) (p.sent + 1) now; actions = action.Print (pong_text p.name n now) ∷ sends (p.sent + 1) ∷ [] }) (record { state = returned p; actions = action.Print (pong_text p.name n now) ∷ [] })).state ≡ true
+back_done p n now true d = done_again p.got p.count d
+back_done p n now false d = done_again p.got p.count d
 
-abbrev always : Echo → Bool
-always e = true
+pinger_done_stays : (p : Pinger) (now : ℕ) (why : Cause Load) → pinger_done p ≡ true → pinger_done (pinger_handled p now why).state ≡ true
+pinger_done_stays p now cause.Start d = start_done p now (nat_lt 0 p.count) d
+pinger_done_stays p now (cause.Link port (load.Core n)) d = back_done p n now (nat_lt p.sent p.count) d
+pinger_done_stays p now (cause.Own line y) d = d
+pinger_done_stays p now (cause.Tick clock) d = d
 
-echo_by : (e : Echo) (n : ℕ) (b : Bool) → nat_eq e.delay 0 ≡ b → Keeps EchoFits always e (record { state = e; actions = cond b (sends n) (action.SelfSend 0 e.delay (load.Core n)) ∷ [] })
-echo_by e n true d = record { works = λ f. f; acts = λ f. (omega arith, tt); done_stays = λ x. x }
-echo_by e n false d = record { works = λ f. f; acts = λ f. ((grind (arith, nat_tests), f), tt); done_stays = λ x. x }
+-- ---- the echo
 
-echo_keeps : (e : Echo) (why : Cause Load) → Keeps EchoFits always e (echo_handled e why)
-echo_keeps e cause.Start = keeps_still EchoFits always e
-echo_keeps e (cause.Link port (load.Core n)) = echo_by e n (nat_eq e.delay 0) refl
-echo_keeps e (cause.Own line (load.Core n)) = record { works = λ f. f; acts = λ f. (omega arith, tt); done_stays = λ d. d }
-echo_keeps e (cause.Tick clock) = keeps_still EchoFits always e
+echo_by : (e : Echo) (port n now : ℕ) (b : Bool) → nat_eq e.delay 0 ≡ b → EchoFits e → n < 2 ^ 32 → Kept (any.Echo e) now (cause.Link port (load.Core n)) (record { state = any.Echo e; actions = cond b (sends n) (action.SelfSend 0 e.delay (load.Core n)) ∷ [] })
+echo_by e port n now true d f h = kept (any.Echo e) now (cause.Link port (load.Core n)) (record { state = any.Echo e; actions = sends n ∷ [] }) f tt (omega arith, tt) (h, tt) (λ i. refl)
+echo_by e port n now false d f h = kept (any.Echo e) now (cause.Link port (load.Core n)) (record { state = any.Echo e; actions = action.SelfSend 0 e.delay (load.Core n) ∷ [] }) f tt ((grind (arith, nat_tests), f), tt) (h, tt) (λ i. refl)
 
--- ---- what is sent
-
-start_sends : (p : Pinger) (now : ℕ) (b : Bool) → SendsFit LoadFits (cond {A = Reaction Pinger Load} b (record { state = thrown p 1 now; actions = sends 1 ∷ [] }) (still p)).actions
-start_sends p now true = (omega arith, tt)
-start_sends p now false = tt
-
-back_sends : (p : Pinger) (n now : ℕ) (b : Bool) → nat_lt p.sent p.count ≡ b → PingerFits p → SendsFit LoadFits (cond {A = Reaction Pinger Load} b (record { state = thrown (returned p) (p.sent + 1) now; actions = action.Print (pong_text p.name n now) ∷ sends (p.sent + 1) ∷ [] }) (record { state = returned p; actions = action.Print (pong_text p.name n now) ∷ [] })).actions
-back_sends p n now true e f = (tt, (grind (arith, nat_tests, f.count), tt))
-back_sends p n now false e f = (tt, tt)
-
-pinger_sends : (p : Pinger) (now : ℕ) (why : Cause Load) → PingerFits p → SendsFit LoadFits (pinger_handled p now why).actions
-pinger_sends p now cause.Start f = start_sends p now (nat_lt 0 p.count)
-pinger_sends p now (cause.Link port (load.Core n)) f = back_sends p n now (nat_lt p.sent p.count) refl f
-pinger_sends p now (cause.Own line x) f = tt
-pinger_sends p now (cause.Tick clock) f = tt
-
-echo_sends_by : (e : Echo) (n : ℕ) (b : Bool) → n < 2 ^ 32 → SendsFit LoadFits (cond b (sends n) (action.SelfSend 0 e.delay (load.Core n)) ∷ [])
-echo_sends_by e n true h = (h, tt)
-echo_sends_by e n false h = (h, tt)
-
-echo_sends : (e : Echo) (why : Cause Load) → CauseFits LoadFits why → SendsFit LoadFits (echo_handled e why).actions
-echo_sends e cause.Start h = tt
-echo_sends e (cause.Link port (load.Core n)) h = echo_sends_by e n (nat_eq e.delay 0) h
-echo_sends e (cause.Own line (load.Core n)) h = (h, tt)
-echo_sends e (cause.Tick clock) h = tt
+echo_keeps : (e : Echo) (now : ℕ) (why : Cause Load) → EchoFits e → MayHear any_kind any_allowed (any.Echo e) now why → Kept (any.Echo e) now why (any_handled (any.Echo e) now why)
+echo_keeps e now cause.Start f h = kept (any.Echo e) now cause.Start (still (any.Echo e)) f tt tt tt (λ i. refl)
+echo_keeps e now (cause.Link port (load.Core n)) f h = echo_by e port n now (nat_eq e.delay 0) refl f h
+echo_keeps e now (cause.Own line (load.Core n)) f h = kept (any.Echo e) now (cause.Own line (load.Core n)) (record { state = any.Echo e; actions = sends n ∷ [] }) f tt (omega arith, tt) (h, tt) (λ i. refl)
+echo_keeps e now (cause.Tick clock) f h = kept (any.Echo e) now (cause.Tick clock) (still (any.Echo e)) f tt tt tt (λ i. refl)
 
 -- ---- all kinds
 
-any_works : (x : Any) (now : ℕ) (why : Cause Load) → AnyFits x now → AnyFits (any_handled x now why).state now
-any_works (any.Pinger p) now why f = (pinger_keeps p now why).works f
-any_works (any.Echo e) now why f = (echo_keeps e why).works f
+any_later : (x : Any) (now later : ℕ) → AnyFits x now → AnyFits x later
+any_later (any.Pinger p) now later f = f
+any_later (any.Echo e) now later f = f
 
-any_acts : (x : Any) (now : ℕ) (why : Cause Load) → AnyFits x now → ActionsFit (any_handled x now why).actions
-any_acts (any.Pinger p) now why f = (pinger_keeps p now why).acts f
-any_acts (any.Echo e) now why f = (echo_keeps e why).acts f
+cause_fits : (x : Any) (now : ℕ) (why : Cause Load) → MayHear any_kind any_allowed x now why → CauseFits why
+cause_fits x now cause.Start h = tt
+cause_fits x now (cause.Link port y) h = h
+cause_fits x now (cause.Own line y) h = h
+cause_fits x now (cause.Tick clock) h = tt
 
-any_sends : (x : Any) (now : ℕ) (why : Cause Load) → AnyFits x now → CauseFits LoadFits why → SendsFit LoadFits (any_handled x now why).actions
-any_sends (any.Pinger p) now why f h = pinger_sends p now why f
-any_sends (any.Echo e) now why f h = echo_sends e why h
-
-any_waits : (x : Any) (now later : ℕ) → AnyFits x now → AnyFits x later
-any_waits (any.Pinger p) now later f = f
-any_waits (any.Echo e) now later f = f
+any_keeps : (x : Any) (now : ℕ) (why : Cause Load) → MayTell any_kind any_allowed x now why → Kept x now why (any_handled x now why)
+any_keeps (any.Pinger p) now why may = pinger_keeps p now why may.fit
+any_keeps (any.Echo e) now why may = echo_keeps e now why may.fit may.heard
 
 any_primary_stays : (x : Any) (now : ℕ) (why : Cause Load) → any_primary (any_handled x now why).state ≡ any_primary x
 any_primary_stays (any.Pinger p) now why = refl
 any_primary_stays (any.Echo e) now why = refl
 
 any_done_stays : (x : Any) (now : ℕ) (why : Cause Load) → any_done x ≡ true → any_done (any_handled x now why).state ≡ true
-any_done_stays (any.Pinger p) now why d = (pinger_keeps p now why).done_stays d
-any_done_stays (any.Echo e) now why d = refl
+any_done_stays (any.Pinger p) now why d = pinger_done_stays p now why d
+any_done_stays (any.Echo e) now why d = d
 
-pub any_laws : KindLaws any_kind LoadFits AnyFits
+pub any_laws : KindLaws any_kind any_allowed
 any_laws = record {
-  waits = λ x now later f up early. any_waits x now later f;
-  works = λ x now why may. any_works x now why may.fit;
-  meets = λ x now why may. (may.fit, may.cause);
-  acts = λ x now why may. any_acts x now why may.fit;
-  sends = λ x now why may. any_sends x now why may.fit may.cause;
+  fits_later = λ x now later up early fit. any_later x now later fit;
+  hears_later = λ x why now later up early heard. heard;
+  capacity_fits = λ x now p ch fit in_range. absurd (omega (arith, in_range));
+  meets = λ x now why may. (may.fit, cause_fits x now why may.heard);
+  keeps = any_keeps;
   primary_stays = any_primary_stays;
   done_stays = any_done_stays;
 }
 
-pub any_world : World any_kind (Safe any_kind LoadFits AnyFits)
-any_world = world_of any_kind LoadFits AnyFits any_laws
+pub any_world : World any_kind any_safe
+any_world = world_of any_kind any_allowed any_laws

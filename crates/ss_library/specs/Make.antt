@@ -1,5 +1,5 @@
 -- The making of a graph: its checks in order, and the elements and the wires of one that passes them.
-use Rattle.std.specs.Prelude.{ℕ, ◌+◌, List, [], ◌∷◌, ◌++◌, map, Bool, true, false, not, ◌||◌, Option, Some, None, is_some, option_and_then, slice_get, codes}
+use Rattle.std.specs.Prelude.{ℕ, ◌==◌, length, ◌+◌, List, [], ◌∷◌, ◌++◌, map, Bool, true, false, not, ◌||◌, Option, Some, None, is_some, option_and_then, slice_get, codes}
 use Rattle.ss_model.specs.declared.LinkLine.{LinkLine}
 use Rattle.ss_model.specs.declared.InnerLine.{InnerLine}
 use Rattle.ss_model.specs.declared.InnerLine.TheVariants as inner
@@ -45,10 +45,18 @@ abbrev pub row_check : ℕ → List (List ℕ × List ℕ) → ParamRow → Chec
 row_check i ps r = check (is_some (param_value ps r)) (fault.Param (at (codes "components") i ++ codes ".params." ++ param_text r.name))
 
 -- component i has a kind, and its parameters are as its kind's table has them
-unfoldable pub component_checks : ℕ → Part → List (Check MakeFault)
-component_checks i p =
+unfoldable pub kind_checks : ℕ → Part → List (Check MakeFault)
+kind_checks i p =
     check (is_some (kind_named p.kind)) (fault.UnknownType (at (codes "components") i ++ codes ".type"))
     ∷ map (row_check i p.params) (params_of (kind_named p.kind))
+
+-- component i asks for no statistic, since no kind has one
+unfoldable pub stats_checks : ℕ → Part → List (Check MakeFault)
+stats_checks i p = check (length p.stats == 0) (fault.Param (at (codes "components") i ++ codes ".statistics[0]")) ∷ []
+
+-- component i is of a kind, with parameters and statistics that the kind has
+unfoldable pub component_checks : ℕ → Part → List (Check MakeFault)
+component_checks i p = kind_checks i p ++ stats_checks i p
 
 unfoldable pub components_checks : List Part → List (Check MakeFault)
 components_checks ps = each_numbered component_checks 0 ps

@@ -1,8 +1,8 @@
 //! The elements of a graph's components.
 
 ghost use Rattle.std.specs.Prelude.{◌≡◌, map};
-ghost use Rattle.ss_graph.specs.Checks.{Judged};
-ghost use Rattle.ss_library.specs.Make.{is_memory, component_checks, components_checks, element_of};
+ghost use Rattle.ss_graph.specs.Checks.{Judged, Passes};
+ghost use Rattle.ss_library.specs.Make.{is_memory, kind_checks, stats_checks, component_checks, components_checks, element_of};
 
 use crate::fault::MakeFault;
 use crate::kinds::{Any, Echo, Pinger};
@@ -13,10 +13,10 @@ use ss_graph::Part;
 use ss_units::Text;
 use std::alloc::Global;
 
-/// The element of component `index`.
-#[tactic(auto, using(ss_graph::proofs::Judging::first_fault_append), unfolding(ss_graph::specs::Checks::first_fault, crate::specs::Make::component_checks))]
-fn element_at(alloc: Global, part: &Part, index: usize) -> Result<Any, MakeFault>
-    ensures { Judged is_memory (λ x. x) result (component_checks index part.now) (element_of part.now) }
+/// The element of component `index`, by its kind and its parameters.
+#[tactic(auto, using(ss_graph::proofs::Judging::first_fault_append), unfolding(ss_graph::specs::Checks::first_fault, crate::specs::Make::kind_checks))]
+fn kind_at(alloc: Global, part: &Part, index: usize) -> Result<Any, MakeFault>
+    ensures { Judged is_memory (λ x. x) result (kind_checks index part.now) (element_of part.now) }
 {
     match kind_of(part.kind.as_str()) {
         Some(KindName::Pinger) => {
@@ -39,6 +39,29 @@ fn element_at(alloc: Global, part: &Part, index: usize) -> Result<Any, MakeFault
             Err(MakeFault::UnknownType(Text::from_string(place)))
         }
     }
+}
+
+/// Component `index` asks for no statistic.
+#[tactic(auto, unfolding(ss_graph::specs::Checks::first_fault, crate::specs::Make::stats_checks))]
+fn without_stats(alloc: Global, part: &Part, index: usize) -> Result<(), MakeFault>
+    ensures { Passes is_memory result (stats_checks index part.now) }
+{
+    if part.stats.as_slice().is_empty() {
+        return Ok(());
+    }
+    let mut place = item_place(alloc, "components", index)?;
+    place.push_str(".statistics[0]")?;
+    Err(MakeFault::Param(Text::from_string(place)))
+}
+
+/// The element of component `index`.
+#[tactic(auto, using(ss_graph::proofs::Judging::first_fault_append), unfolding(crate::specs::Make::component_checks))]
+fn element_at(alloc: Global, part: &Part, index: usize) -> Result<Any, MakeFault>
+    ensures { Judged is_memory (λ x. x) result (component_checks index part.now) (element_of part.now) }
+{
+    let element = kind_at(alloc, part, index)?;
+    without_stats(alloc, part, index)?;
+    Ok(element)
 }
 
 /// The elements of the components, in order.

@@ -148,13 +148,12 @@ impl Echo {
 impl Element for Any {
     type Load = Load;
 
-    ghost use Rattle.ss_safe.specs.Safe.{Safe};
-    ghost use Rattle.ss_library.specs.Kinds.{any_kind, AnyFits, LoadFits};
+    ghost use Rattle.ss_library.specs.Kinds.{any_kind, any_safe};
     ghost use Rattle.ss_library.specs.Laws.{any_world};
 
     ghost kind = { any_kind };
 
-    ghost safe = { Safe any_kind LoadFits AnyFits };
+    ghost safe = { any_safe };
 
     ghost laws = { any_world };
 

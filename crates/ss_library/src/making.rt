@@ -4,8 +4,7 @@ ghost use Rattle.std.specs.Prelude.{◌≡◌, ◌<◌, ◌≤◌, ◌+◌, ◌-
 ghost use Rattle.ss_model.specs.Wiring.{link_at};
 ghost use Rattle.ss_model.specs.Step.{opening};
 ghost use Rattle.ss_element.specs.Index.{entries};
-ghost use Rattle.ss_safe.specs.Safe.{Safe};
-ghost use Rattle.ss_library.specs.Kinds.{any_kind, LoadFits, AnyFits};
+ghost use Rattle.ss_library.specs.Kinds.{any_safe};
 ghost use Rattle.ss_graph.specs.Checks.{Judged, Passes, first_fault};
 ghost use Rattle.ss_graph.specs.Options.{the};
 ghost use Rattle.ss_graph.specs.Links.{is_taken};
@@ -185,7 +184,7 @@ fn all_linked(alloc: Global, graph: &Graph, wires: &Wires) -> Result<(), MakeFau
 #[tactic(auto, using(ss_graph::proofs::Judging::first_fault_append), unfolding(crate::specs::Make::make_checks))]
 pub fn make(alloc: Global, graph: &Graph) -> Result<Model<Any>, MakeFault>
     requires { IsFit graph.now }
-    ensures safe { IfOk result (λ m. Safe any_kind LoadFits AnyFits m.wires 0 (opening m.elements.items)) }
+    ensures safe { IfOk result (λ m. any_safe m.wires 0 (opening m.elements.items)) }
     ensures judged { Judged is_memory (λ m. record { elements = m.elements.items; wires = m.wires }) result (make_checks graph.now) (model_of graph.now) }
 {
     let parts = graph.components.as_slice();

@@ -124,6 +124,8 @@ fn part(alloc: Global, kind: &str, name: &str, value: &str) -> Result<Part, Allo
         name: Text::new(alloc, "a")?,
         kind: Text::new(alloc, kind)?,
         params: Items::from_vec(params),
+        stats: Items::from_vec(Vec::new(alloc)),
+        thread: None,
         input_latency: 0,
         output_latency: 0,
     })

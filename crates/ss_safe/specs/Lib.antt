@@ -1,6 +1,6 @@
 pub mod Laws
 pub mod Safe
-pub mod Events
-pub mod Safety
+pub mod Kept
 pub mod Worlds
 pub mod Quiet
+pub mod Growing

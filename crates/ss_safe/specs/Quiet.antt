@@ -1,13 +1,9 @@
 -- The least kind of element that keeps the laws: it takes what comes, and never asks for anything.
-use Rattle.std.specs.Prelude.{ℕ, true, false, [], refl}
+use Rattle.std.specs.Prelude.{true, false, [], refl}
 use Rattle.ss_element.specs.Kind.{Kind}
-use Rattle.ss_safe.specs.Laws.{KindLaws}
-
-abbrev pub any_load : {L : Type 0} → L → Type 0
-any_load load = Unit {0}
-
-abbrev pub always : {S : Type 0} → S → ℕ → Type 0
-always x now = Unit {0}
+use Rattle.std.proofs.Common.{arith}
+use Rattle.ss_safe.specs.Kept.Flow.{no_flow}
+use Rattle.ss_safe.specs.Laws.{no_meters, Allowed, KindLaws}
 
 module _ {S L : Type 0} where
   abbrev pub quiet_kind : Kind S L
@@ -19,13 +15,32 @@ module _ {S L : Type 0} where
     ticks = λ x i. false;
   }
 
-  pub quiet_laws : KindLaws {S = S} {L = L} quiet_kind any_load always
+  abbrev pub all_allowed : Allowed S L
+  all_allowed = record {
+    fits = λ x now. Unit {0};
+    hears = λ x why now. Unit {0};
+    gives = λ x p load now. Unit {0};
+    first = λ x. Unit {0};
+    begun = λ x. Unit {0};
+    meters = no_meters;
+  }
+
+  pub quiet_laws : KindLaws {S = S} {L = L} quiet_kind all_allowed
   quiet_laws = record {
-    waits = λ x now later fit up early. tt;
-    works = λ x now why may. tt;
+    fits_later = λ x now later up early fit. tt;
+    hears_later = λ x why now later up early heard. tt;
+    capacity_fits = λ x now p ch fit in_range. absurd (omega (arith, in_range));
     meets = λ x now why may. tt;
-    acts = λ x now why may. tt;
-    sends = λ x now why may. tt;
+    keeps = λ x now why may. record {
+      fit = tt;
+      begun = tt;
+      acts = tt;
+      sends = tt;
+      flow = no_flow x why (record { state = x; actions = [] });
+      clocks = λ i. refl;
+      hears = λ other at may. tt;
+      gives = λ p load at may. tt;
+    };
     primary_stays = λ x now why. refl;
     done_stays = λ x now why h. h;
   }

@@ -1,10 +1,12 @@
 //! An element that keeps the local laws, and has its world from them.
 
-ghost use Rattle.ss_safe.specs.Quiet.{quiet_kind, any_load, always, quiet_laws};
+ghost use Rattle.ss_safe.specs.Quiet.{quiet_kind, all_allowed, quiet_laws};
 ghost use Rattle.ss_safe.specs.Safe.{Safe};
 ghost use Rattle.ss_safe.specs.Worlds.{world_of};
 
-use crate::{Local, an_opening_is_safe, local_laws_give_a_world};
+use crate::{
+    Local, a_run_stays_safe, an_opening_is_safe, local_laws_give_a_world, nothing_overflows,
+};
 use ss_element::{Acts, Cause, Element};
 use std::alloc::AllocError;
 
@@ -17,9 +19,9 @@ impl Element for Quiet {
 
     ghost kind = { quiet_kind };
 
-    ghost safe = { Safe quiet_kind any_load always };
+    ghost safe = { Safe quiet_kind all_allowed };
 
-    ghost laws = { world_of quiet_kind any_load always quiet_laws };
+    ghost laws = { world_of quiet_kind all_allowed quiet_laws };
 
     fn handle(
         &mut self,
@@ -44,9 +46,7 @@ impl Element for Quiet {
 }
 
 impl Local for Quiet {
-    ghost loads = { any_load };
-
-    ghost fits = { always };
+    ghost allowed = { all_allowed };
 
     ghost local = { quiet_laws };
 }
@@ -55,4 +55,6 @@ impl Local for Quiet {
 fn a_quiet_element_has_its_world() {
     local_laws_give_a_world::<Quiet>();
     an_opening_is_safe::<Quiet>();
+    a_run_stays_safe::<Quiet>();
+    nothing_overflows::<Quiet>();
 }

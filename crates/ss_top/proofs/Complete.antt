@@ -3,7 +3,7 @@ use Rattle.std.proofs.Common.{◌≡◌, ℕ, List, Option, Some, None, Ok, Err,
 use Rattle.std.specs.FinMap.{get}
 use Rattle.ss_edge.specs.Edge.{Contents}
 use Rattle.ss_top.specs.Words.{Plan, plan}
-use Rattle.ss_top.specs.Judge.{Judged, not_text, unbuilt, accepted, judge}
+use Rattle.ss_top.specs.Judge.{Judged, not_text, at_fault, past_limit, accepted, judge}
 use Rattle.ss_top.specs.Answer.{Answer, Answers, Asks, AnswersPlan, AnswersEntry, AnswersBytes, AnswersSized, AnswersJudged, whole, most_graph}
 use Rattle.ss_top.specs.Headline.{Seen, Stands, Given, Ends, Failing, Gave, IsComplete, AllComplete, OneAnswer}
 use Rattle.ss_top.specs.declared.words.Usage.{Usage}
@@ -13,7 +13,8 @@ use Rattle.ss_top.proofs.Judging.{runs_one}
 
 judged-one : (name bytes : List ℕ) (j : Judged) (a b : Answer) → AnswersJudged name bytes j a → AnswersJudged name bytes j b → a ≡ b
 judged-one name bytes not_text a b h k = h ∙ sym k
-judged-one name bytes unbuilt a b h k = h ∙ sym k
+judged-one name bytes (at_fault f place) a b h k = h ∙ sym k
+judged-one name bytes (past_limit k n) a b h l = h ∙ sym l
 judged-one name bytes accepted a b h k = h.2 ∙ ap whole (runs_one bytes h.0 k.0 h.1 k.1) ∙ sym k.2
 
 sized-one : (name bytes : List ℕ) (t : Bool) (a b : Answer) → AnswersSized name bytes t a → AnswersSized name bytes t b → a ≡ b

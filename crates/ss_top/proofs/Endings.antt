@@ -1,5 +1,5 @@
 -- How a call ends, from how its parts end.
-use Rattle.std.proofs.Common.{◌≡◌, ℕ, ◌<◌, ◌≤◌, List, [], ◌∷◌, ◌++◌, map, length, Option, Some, None, Ok, Err, Result, Bool, true, false, refl, ap, sym, ◌∙◌, subst, arith, inl, inr, ◌⊎◌, codes, nat_lt}
+use Rattle.std.proofs.Common.{◌≡◌, ℕ, ◌+◌, ◌<◌, ◌≤◌, List, [], ◌∷◌, ◌++◌, map, length, Option, Some, None, Ok, Err, Result, Bool, true, false, refl, ap, sym, ◌∙◌, subst, arith, inl, inr, ◌⊎◌, codes, nat_lt}
 use Rattle.std.proofs.lemmas.List.{map-append}
 use Rattle.std.proofs.lemmas.Bool.Decides.{nat_tests}
 use Rattle.std.specs.Ordering.{nat_cmp, eq_by_cmp, is_eq}
@@ -8,12 +8,17 @@ use Rattle.std.specs.Cmp.Lexicographic.{slice_cmp, nat_list_cmp_total}
 use Rattle.std.specs.FinMap.{empty, get, insert, get-insert}
 use Rattle.std.specs.Prelude.{if◌then◌else◌}
 use Rattle.std.proofs.Common.{cond}
-use Rattle.ss_top.specs.Message.{message_text}
+use Rattle.ss_top.specs.Message.{message_text, fault_line, limit_line}
 use Rattle.ss_top.specs.declared.print.Message.TheVariants as message
 use Rattle.ss_edge.specs.Edge.{Contents, more, Kept, Rose, TookSome}
 use Rattle.ss_top.specs.Words.{Plan, plan, usage_text}
-use Rattle.ss_top.specs.Judge.{Judged, not_text, unbuilt, accepted, judge, RunsTo}
-use Rattle.ss_top.specs.Answer.{Step, write, put, Answer, Answers, Asks, AnswersPlan, AnswersEntry, AnswersBytes, AnswersSized, AnswersJudged, line, refusal, whole, most_graph}
+use Rattle.ss_graph.specs.declared.fault.LimitKind.TheVariants as limit
+use Rattle.ss_top.specs.Judge.{Judged, not_text, at_fault, past_limit, accepted, judge, RunsTo}
+use Rattle.ss_top.specs.Simulate.{judged_by, Says, status_of, line_of, TellsRefusal}
+use Rattle.ss_top.specs.declared.refusal.Refusal.{Refusal}
+use Rattle.ss_top.specs.declared.refusal.Refusal.TheVariants as refusal
+use Rattle.ss_top.specs.Answer.{Step, write, put, Answer, Answers, Asks, AnswersPlan, AnswersEntry, AnswersBytes, AnswersSized, AnswersJudged, line, whole, most_graph}
+use Rattle.ss_top.specs.Answer as answer
 use Rattle.ss_top.specs.Reading.{Holds}
 use Rattle.ss_top.specs.Printing.{Told, more_all, StopsIn}
 use Rattle.ss_top.specs.Writing.{Writes, EndsText}
@@ -61,26 +66,45 @@ writes_done (t ∷ ts) held o = writes_done ts held (more t o)
 -- ---- a run's texts
 
 module _ (name bytes : List ℕ) (out out' : Option (List ℕ)) (outs outs' : ℕ) (err err' : Option (List ℕ)) (errs errs' : ℕ) where
-  refused : (s : Status) (text : List ℕ) → AnswersJudged name bytes (judge bytes) (refusal s text) → out' ≡ out → Told (line text) err err' errs errs'
+  refused : (s : Status) (text : List ℕ) → AnswersJudged name bytes (judge bytes) (answer.refusal s text) → out' ≡ out → Told (line text) err err' errs errs'
       → (told : Option Contents) (held : Contents) (reads puts : List ℕ → ℕ) → Stands told held → Given (λ h a. (h ≡ held) × AnswersJudged name bytes (judge bytes) a) (seen told reads puts out outs err errs) (seen told reads puts out' outs' err' errs') s
   refused s text a same t = λ told held reads puts stands. record {
     held = held;
     stands = stands;
-    answer = refusal s text;
+    answer = answer.refusal s text;
     answered = (refl, a);
     status = refl;
     done = ap (outside_of told) same;
     err = t;
   }
 
-  pub text_refused : judge bytes ≡ not_text → out' ≡ out → Told (line (message_text message.NotText ++ name)) err err' errs errs' → EndsText name bytes out out' outs outs' err err' errs errs' status.Text
-  text_refused j same t = refused status.Text (message_text message.NotText ++ name) (subst (λ (x : Judged). AnswersJudged name bytes x (refusal status.Text (message_text message.NotText ++ name))) (sym j) refl) same t
-
-  pub graph_refused : judge bytes ≡ unbuilt → out' ≡ out → Told (line (message_text message.Unbuilt)) err err' errs errs' → EndsText name bytes out out' outs outs' err err' errs errs' status.Graph
-  graph_refused j same t = refused status.Graph (message_text message.Unbuilt) (subst (λ (x : Judged). AnswersJudged name bytes x (refusal status.Graph (message_text message.Unbuilt))) (sym j) refl) same t
-
   pub nothing_ran : out' ≡ out → Told (line (message_text message.NoMemory)) err err' errs errs' → EndsText name bytes out out' outs outs' err err' errs errs' status.NoMemory
   nothing_ran same t = λ told held reads puts stands. record { so_far = inl (ap (outside_of told) same); err = t }
+
+  judged : (a : Answer) (j : Judged) → judge bytes ≡ j → AnswersJudged name bytes j a → AnswersJudged name bytes (judge bytes) a
+  judged a j e k = subst (λ (x : Judged). AnswersJudged name bytes x a) (sym e) k
+
+  ended_by : (o : Option Judged) → (judge bytes ≡ accepted → ⊥) ⊎ (o ≡ None) → Says o (judge bytes) → out' ≡ out → Told (line_of name o) err err' errs errs' → EndsText name bytes out out' outs outs' err err' errs errs' (status_of o)
+  ended_by None n h same t = nothing_ran same t
+  ended_by (Some not_text) n h same t = refused status.Text (message_text message.NotText ++ name) (judged _ not_text h refl) same t
+  ended_by (Some (at_fault f place)) n h same t = refused status.Graph (fault_line f place) (judged _ (at_fault f place) h refl) same t
+  ended_by (Some (past_limit k m)) n h same t = refused status.Limit (limit_line k m) (judged _ (past_limit k m) h refl) same t
+  ended_by (Some accepted) (inl n) h same t = absurd (n h)
+  ended_by (Some accepted) (inr n) h same t = absurd (cc)
+
+  no_other : (o : Option Judged) → (o ≡ Some accepted → ⊥) → Says o (judge bytes) → (judge bytes ≡ accepted → ⊥) ⊎ (o ≡ None)
+  no_other None n h = inr refl
+  no_other (Some j) n h = inl (λ e. n (ap Some (sym h ∙ e)))
+
+  never : (r : Refusal) → judged_by r ≡ Some accepted → ⊥
+  never refusal.NotText e = cc
+  never (refusal.Graph f place) e = cc
+  never refusal.SharedParams e = cc
+  never (refusal.Limit k n) e = cc
+  never refusal.NoMemory e = cc
+
+  pub refusal_ended : (r : Refusal) (s : Status) → Says (judged_by r) (judge bytes) → out' ≡ out → TellsRefusal name r err err' errs errs' s → EndsText name bytes out out' outs outs' err err' errs errs' s
+  refusal_ended r s h same t = subst (λ (x : Status). EndsText name bytes out out' outs outs' err err' errs errs' x) (sym t.status) (ended_by (judged_by r) (no_other (judged_by r) (never r) h) h same t.told)
 
   pub run_ended : (texts : List (List ℕ)) (s : Status) → judge bytes ≡ accepted → RunsTo bytes texts → Writes texts out out' outs outs' err err' errs errs' s → EndsText name bytes out out' outs outs' err err' errs errs' s
   run_ended texts status.Whole j r w = λ told held reads puts stands. record {
@@ -198,15 +222,15 @@ module _ (name : List ℕ) (held held' : Option Contents) (reads reads' puts put
       → EndsBy (of_entry name) (is_named name) (seen held reads puts out outs err errs) (seen held' reads' puts' out' outs' err' errs') status.NoMemory
   read_starved same same' t = record { so_far = inl (ap (λ x. outside_of x out') same ∙ ap (outside_of held) same'); err = t }
 
-  large : (bytes : List ℕ) → most_graph < length bytes → AnswersBytes name bytes (refusal status.Limit (message_text message.GraphBytes))
-  large bytes h = let big : nat_lt most_graph (length bytes) ≡ true = grind (arith, nat_tests) in subst (λ (b : Bool). AnswersSized name bytes b (refusal status.Limit (message_text message.GraphBytes))) (sym big) refl
+  large : (bytes : List ℕ) → most_graph < length bytes → AnswersBytes name bytes (answer.refusal status.Limit (limit_line limit.GraphBytes (most_graph + 1)))
+  large bytes h = let big : nat_lt most_graph (length bytes) ≡ true = grind (arith, nat_tests) in subst (λ (b : Bool). AnswersSized name bytes b (answer.refusal status.Limit (limit_line limit.GraphBytes (most_graph + 1)))) (sym big) refl
 
-  pub read_large : (bytes : List ℕ) → most_graph < length bytes → Holds held name bytes → held' ≡ held → out' ≡ out → Told (line (message_text message.GraphBytes)) err err' errs errs'
+  pub read_large : (bytes : List ℕ) → most_graph < length bytes → Holds held name bytes → held' ≡ held → out' ≡ out → Told (line (limit_line limit.GraphBytes (most_graph + 1))) err err' errs errs'
       → EndsBy (of_entry name) (is_named name) (seen held reads puts out outs err errs) (seen held' reads' puts' out' outs' err' errs') status.Limit
   read_large bytes h holds same same' t = record {
     held = known held name bytes;
     stands = stands-known held name bytes;
-    answer = refusal status.Limit (message_text message.GraphBytes);
+    answer = answer.refusal status.Limit (limit_line limit.GraphBytes (most_graph + 1));
     answered = entered name bytes (known held name bytes) (known held name bytes) _ (get-known held name bytes holds) refl (large bytes h);
     status = refl;
     done = ap (λ x. outside_of x out') same ∙ ap (outside_of held) same';
@@ -219,9 +243,9 @@ planned : (words : List (List ℕ)) (name : List ℕ) (held : Contents) (a : Ans
 unfolding Answers
 planned words name held a p k = subst (λ (r : Result Plan Usage). AnswersPlan r held a) (sym p) k
 
-refused_words : (words : List (List ℕ)) (u : Usage) (held : Contents) → plan words ≡ Err u → Answers words held (refusal status.Usage (message_text message.Usage ++ usage_text u))
+refused_words : (words : List (List ℕ)) (u : Usage) (held : Contents) → plan words ≡ Err u → Answers words held (answer.refusal status.Usage (message_text message.Usage ++ usage_text u))
 unfolding Answers
-refused_words words u held p = subst (λ (r : Result Plan Usage). AnswersPlan r held (refusal status.Usage (message_text message.Usage ++ usage_text u))) (sym p) refl
+refused_words words u held p = subst (λ (r : Result Plan Usage). AnswersPlan r held (answer.refusal status.Usage (message_text message.Usage ++ usage_text u))) (sym p) refl
 
 asked_for : (words : List (List ℕ)) (name n : List ℕ) → plan words ≡ Ok (record { graph = name }) → n ≡ name → Asks words n
 asked_for words name n p e = p ∙ ap (λ (x : List ℕ). Ok (record { graph = x })) (sym e)
@@ -233,7 +257,7 @@ pub words_refused : (words : List (List ℕ)) (u : Usage) (old new : Seen) → p
 words_refused words u old new p same t = record {
   held = anything old.outside.held;
   stands = stands-anything old.outside.held;
-  answer = refusal status.Usage (message_text message.Usage ++ usage_text u);
+  answer = answer.refusal status.Usage (message_text message.Usage ++ usage_text u);
   answered = refused_words words u (anything old.outside.held) p;
   status = refl;
   done = same;

@@ -13,15 +13,15 @@ use Rattle.ss_library.specs.declared.kinds.Load.{Load}
 use Rattle.ss_library.specs.declared.fault.MakeFault.{MakeFault}
 use Rattle.ss_library.specs.Make.{Made, make_checks, model_of}
 use Rattle.ss_model.proofs.Ends.{run_one}
-use Rattle.ss_top.specs.Judge.{Judged, not_text, unbuilt, accepted, judged_made, judged_read, is_refused, judge, elements, limits_of, Prints, RunsTo}
+use Rattle.ss_top.specs.Judge.{Judged, accepted, unmade_by, judged_made, judged_read, refused_by, judge, elements, limits_of, Prints, RunsTo}
 
 -- ---- the judge
 
-pub judge_refused : (bytes : List ℕ) (f : GraphFault) → first_fault (text_checks bytes) ≡ Some f → judge bytes ≡ is_refused f
+pub judge_refused : (bytes : List ℕ) (f : GraphFault) → first_fault (text_checks bytes) ≡ Some f → judge bytes ≡ refused_by f
 unfolding judge
 judge_refused bytes f e = ap (judged_read bytes) e
 
-pub judge_unmade : (bytes : List ℕ) (g : Graph) (f : MakeFault) → first_fault (text_checks bytes) ≡ None → g ≡ graph_of bytes → first_fault (make_checks g) ≡ Some f → judge bytes ≡ unbuilt
+pub judge_unmade : (bytes : List ℕ) (g : Graph) (f : MakeFault) → first_fault (text_checks bytes) ≡ None → g ≡ graph_of bytes → first_fault (make_checks g) ≡ Some f → judge bytes ≡ unmade_by f
 unfolding judge
 judge_unmade bytes g f e s h = ap (judged_read bytes) e ∙ ap (λ (x : Graph). judged_made (first_fault (make_checks x))) (sym s) ∙ ap judged_made h
 

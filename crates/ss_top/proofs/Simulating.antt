@@ -15,8 +15,9 @@ use Rattle.ss_library.specs.declared.fault.MakeFault.{MakeFault}
 use Rattle.ss_library.specs.Make.{Made, make_checks, model_of}
 use Rattle.ss_library.specs.Make as making
 use Rattle.ss_serial.specs.Serial.{Standing, standing, ran, Ran}
-use Rattle.ss_top.specs.Judge.{Judged, unbuilt, judge, is_refused, elements, limits_of, Prints, RunsTo}
-use Rattle.ss_top.specs.Simulate.{IsVerdict, IsMade, RefusedBy, UnmadeBy}
+use Rattle.ss_top.specs.Judge.{Judged, judge, refused_by, unmade_by, elements, limits_of, Prints, RunsTo}
+use Rattle.ss_top.specs.Simulate.{judged_by, Says, IsSaid, IsVerdict, IsUnmade, IsMade, RefusedBy, UnmadeBy}
+use Rattle.ss_top.specs.declared.refusal.Refusal.{Refusal}
 use Rattle.ss_top.specs.declared.simulate.Verdict.{Verdict}
 use Rattle.ss_top.specs.declared.simulate.Verdict.TheVariants as verdict
 use Rattle.ss_top.proofs.Judging.{judge_refused, judge_unmade, judge_accepted, runs_to}
@@ -43,20 +44,24 @@ module _ (w : Wiring) (xs : List Any) (l : Limits) (t : ℕ) (ls : List Line) wh
 failed : {F : Type 0} (m : F → Bool) (f : F) (first : Option F) → Fails m f first → m f ≡ false → first ≡ Some f
 failed m f first h e = h ∙ ap (λ b. cond b first (Some f)) e
 
-pub text_refused : (bytes : List ℕ) (f : GraphFault) (v : Verdict) → Fails is_memory f (first_fault (text_checks bytes)) → RefusedBy f v → IsVerdict bytes v
-text_refused bytes f (verdict.Ran lines time) h r = absurd r
-text_refused bytes f verdict.NotText h r = judge_refused bytes f (failed is_memory f _ h r.0) ∙ r.1
-text_refused bytes f verdict.Unbuilt h r = judge_refused bytes f (failed is_memory f _ h r.0) ∙ r.1
-text_refused bytes f verdict.NoMemory h r = tt
+said : (bytes : List ℕ) (f : GraphFault) (o : Option Judged) → Fails is_memory f (first_fault (text_checks bytes)) → IsSaid (is_memory f) o (refused_by f) → Says o (judge bytes)
+said bytes f None h r = tt
+said bytes f (Some j) h r = judge_refused bytes f (failed is_memory f _ h r.0) ∙ r.1
 
-pub graph_unmade : (g : Graph) (f : MakeFault) (v : Verdict) → Fails making.is_memory f (first_fault (make_checks g)) → UnmadeBy f v → IsMade g v
-graph_unmade g f (verdict.Ran lines time) h r = absurd r
-graph_unmade g f verdict.NotText h r = absurd r
-graph_unmade g f verdict.Unbuilt h r = (f, failed making.is_memory f _ h r)
-graph_unmade g f verdict.NoMemory h r = tt
+pub text_refused : (bytes : List ℕ) (f : GraphFault) (r : Refusal) → Fails is_memory f (first_fault (text_checks bytes)) → RefusedBy f r → Says (judged_by r) (judge bytes)
+text_refused bytes f r h k = said bytes f (judged_by r) h k
+
+unsaid : (g : Graph) (f : MakeFault) (o : Option Judged) → Fails making.is_memory f (first_fault (make_checks g)) → IsSaid (making.is_memory f) o (unmade_by f) → IsUnmade g o
+unsaid g f None h r = tt
+unsaid g f (Some j) h r = (f, failed making.is_memory f _ h r.0, r.1)
+
+pub graph_unmade : (g : Graph) (f : MakeFault) (r : Refusal) → Fails making.is_memory f (first_fault (make_checks g)) → UnmadeBy f r → IsUnmade g (judged_by r)
+graph_unmade g f r h k = unsaid g f (judged_by r) h k
+
+made_said : (bytes : List ℕ) (g : Graph) (o : Option Judged) → first_fault (text_checks bytes) ≡ None → g ≡ graph_of bytes → IsUnmade g o → Says o (judge bytes)
+made_said bytes g None h e m = tt
+made_said bytes g (Some j) h e m = judge_unmade bytes g m.0 h e m.1 ∙ m.2
 
 pub text_made : (bytes : List ℕ) (g : Graph) (v : Verdict) → first_fault (text_checks bytes) ≡ None → g ≡ graph_of bytes → IsMade g v → IsVerdict bytes v
 text_made bytes g (verdict.Ran lines time) h e m = (judge_accepted bytes g h e m.0, runs_to bytes g (model_of g) _ e refl m.1)
-text_made bytes g verdict.NotText h e m = absurd m
-text_made bytes g verdict.Unbuilt h e m = judge_unmade bytes g m.0 h e m.1
-text_made bytes g verdict.NoMemory h e m = tt
+text_made bytes g (verdict.Refused r) h e m = made_said bytes g (judged_by r) h e m

@@ -1,5 +1,5 @@
 -- What a sink has taken of a text that is written in parts.
-use Rattle.std.proofs.Common.{◌≡◌, ℕ, ◌<◌, ◌≤◌, List, [], ◌∷◌, ◌++◌, Option, Some, None, refl, ap, sym, ◌∙◌, subst, arith, append_assoc}
+use Rattle.std.proofs.Common.{◌≡◌, ℕ, ◌<◌, ◌≤◌, List, [], ◌∷◌, ◌++◌, Option, Some, None, refl, ap, sym, ◌∙◌, subst, arith, append_assoc, inr}
 use Rattle.std.proofs.lemmas.List.{append-nil}
 use Rattle.ss_edge.specs.Edge.{more, TookSome, Rose}
 use Rattle.ss_top.specs.Answer.{line}
@@ -19,9 +19,22 @@ took-first a b o n t = record { front = t.front; rest = t.rest ++ b; whole = ap 
 pub took-then : (a b : List ℕ) (o m n : Option (List ℕ)) → m ≡ more a o → TookSome b m n → TookSome (a ++ b) o n
 took-then a b o m n e t = record { front = a ++ t.front; rest = t.rest; whole = ap (λ x. a ++ x) t.whole ∙ sym (append_assoc a t.front t.rest); took = t.took ∙ ap (λ x. more t.front x) e ∙ more-both a t.front o }
 
--- a line of two parts
-pub line-second : (a b : List ℕ) (o m n : Option (List ℕ)) → m ≡ more a o → TookSome b m n → TookSome (line (a ++ b)) o n
-line-second a b o m n e t = took-first (a ++ b) _ o n (took-then a b o m n e t)
+-- a line of three parts, of which the first is written otherwise
+module _ (t m a b : List ℕ) (o : Option (List ℕ)) (k l : ℕ) where
+  abbrev parts : List ℕ → List ℕ
+  parts x = x ++ (a ++ b)
+
+  told_as : (n : Option (List ℕ)) → t ≡ m → Told (line (parts t)) o n k l → Told (line (parts m)) o n k l
+  told_as n e h = subst (λ (x : List ℕ). Told (line (parts x)) o n k l) e h
+
+  pub told_first : (n : Option (List ℕ)) → t ≡ m → Rose k l → TookSome t o n → Told (line (parts m)) o n k l
+  told_first n e r h = told_as n e (inr (r, took-first (parts t) _ o n (took-first t (a ++ b) o n h)))
+
+  pub told_second : (p n : Option (List ℕ)) → t ≡ m → p ≡ more t o → Rose k l → TookSome a p n → Told (line (parts m)) o n k l
+  told_second p n e f r h = told_as n e (inr (r, took-first (parts t) _ o n (took-then t (a ++ b) o p n f (took-first a b p n h))))
+
+  pub told_third : (p q n : Option (List ℕ)) → t ≡ m → p ≡ more t o → q ≡ more a p → Rose k l → TookSome b q n → Told (line (parts m)) o n k l
+  told_third p q n e f g r h = told_as n e (inr (r, took-first (parts t) _ o n (took-then t (a ++ b) o p n f (took-then a b p q n g h))))
 
 pub rose-first : (a b c d : ℕ) → a ≤ b → b ≤ c → c ≤ d → Rose b c → Rose a d
 rose-first a b c d h k l r = grind arith

@@ -1,11 +1,12 @@
 -- What a call answers: a definition over the words and the entries alone.
 use Rattle.std.specs.Prelude.{ℕ, ◌+◌, ◌≡◌, List, [], ◌∷◌, ◌++◌, length, map, nat_lt, if◌then◌else◌, Option, Some, None, Result, Ok, Err, codes, decimal, Bool, true, false}
 use Rattle.std.specs.FinMap.{get}
-use Rattle.ss_top.specs.Message.{message_text}
+use Rattle.ss_top.specs.Message.{message_text, fault_line, limit_line}
 use Rattle.ss_top.specs.declared.print.Message.TheVariants as message
 use Rattle.ss_edge.specs.Edge.{Contents}
 use Rattle.ss_top.specs.Words.{Plan, plan, usage_text}
-use Rattle.ss_top.specs.Judge.{Judged, not_text, unbuilt, accepted, judge, RunsTo}
+use Rattle.ss_graph.specs.declared.fault.LimitKind.TheVariants as limit
+use Rattle.ss_top.specs.Judge.{Judged, not_text, at_fault, past_limit, accepted, judge, RunsTo}
 use Rattle.ss_top.specs.declared.words.Usage.{Usage}
 use Rattle.ss_top.specs.declared.Status.{Status}
 use Rattle.ss_top.specs.declared.Status.TheVariants as status
@@ -34,7 +35,8 @@ whole texts = record { status = status.Whole; steps = map write texts; err = [] 
 
 abbrev pub AnswersJudged : List ℕ → List ℕ → Judged → Answer → Type 0
 AnswersJudged name bytes not_text a = a ≡ refusal status.Text (message_text message.NotText ++ name)
-AnswersJudged name bytes unbuilt a = a ≡ refusal status.Graph (message_text message.Unbuilt)
+AnswersJudged name bytes (at_fault f place) a = a ≡ refusal status.Graph (fault_line f place)
+AnswersJudged name bytes (past_limit k n) a = a ≡ refusal status.Limit (limit_line k n)
 AnswersJudged name bytes accepted a = (texts : List (List ℕ)) × RunsTo bytes texts × (a ≡ whole texts)
 
 -- the bytes of a graph text are at most so many
@@ -42,7 +44,7 @@ abbrev pub most_graph : ℕ
 most_graph = 67108864
 
 abbrev pub AnswersSized : List ℕ → List ℕ → Bool → Answer → Type 0
-AnswersSized name bytes true a = a ≡ refusal status.Limit (message_text message.GraphBytes)
+AnswersSized name bytes true a = a ≡ refusal status.Limit (limit_line limit.GraphBytes (most_graph + 1))
 AnswersSized name bytes false a = AnswersJudged name bytes (judge bytes) a
 
 -- what the bytes under a name answer

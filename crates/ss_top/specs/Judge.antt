@@ -1,48 +1,59 @@
 -- What a graph text is, and what the run of its graph prints.
-use Rattle.std.specs.Prelude.{ℕ, ◌≡◌, List, Option, Some, None}
+use Rattle.std.specs.Prelude.{ℕ, ◌≡◌, List, Option, Some, None, codes}
 use Rattle.ss_model.specs.Step.{opening}
 use Rattle.ss_model.specs.End.{Behaviour, Limits, Outcome, IsRun, printed_texts}
 use Rattle.ss_element.specs.Kind.{behaviour}
 use Rattle.ss_graph.specs.declared.graph.Graph.{Graph}
 use Rattle.ss_graph.specs.declared.fault.GraphFault.{GraphFault}
-use Rattle.ss_graph.specs.declared.fault.GraphFault.TheVariants as fault
+use Rattle.ss_graph.specs.declared.fault.GraphFault.TheVariants as reading
+use Rattle.ss_graph.specs.declared.fault.LimitKind.{LimitKind}
 use Rattle.ss_graph.specs.Checks.{first_fault}
 use Rattle.ss_graph.specs.Judge.{text_checks, graph_of}
 use Rattle.ss_library.specs.declared.kinds.Any.{Any}
 use Rattle.ss_library.specs.declared.kinds.Load.{Load}
 use Rattle.ss_library.specs.declared.fault.MakeFault.{MakeFault}
+use Rattle.ss_library.specs.declared.fault.MakeFault.TheVariants as making
 use Rattle.ss_library.specs.Kinds.{any_kind}
 use Rattle.ss_library.specs.Make.{Made, make_checks, model_of}
+use Rattle.ss_top.specs.declared.refusal.Fault.{Fault}
+use Rattle.ss_top.specs.declared.refusal.Fault.TheVariants as fault
 
--- no JSON value, a value that is no graph of the accepted form, or a graph
+-- no JSON value; a graph with a fault, and its place; a quantity that passes its limit; or a graph
 pub data Judged : Type 0 where
   not_text : Judged
-  unbuilt : Judged
+  at_fault : Fault → List ℕ → Judged
+  past_limit : LimitKind → ℕ → Judged
   accepted : Judged
 
 -- by the first fault of its making
+abbrev pub unmade_by : MakeFault → Judged
+unmade_by (making.UnknownType p) = at_fault fault.UnknownType p
+unmade_by (making.UnknownPort p) = at_fault fault.UnknownPort p
+unmade_by (making.Param p) = at_fault fault.Param p
+unmade_by (making.PortUnlinked p) = at_fault fault.PortUnlinked p
+unmade_by making.NoMemory = not_text
+
 abbrev pub judged_made : Option MakeFault → Judged
 judged_made None = accepted
-judged_made (Some f) = unbuilt
+judged_made (Some f) = unmade_by f
 
 -- by the first fault of the text, and then that of its making
-abbrev pub is_refused : GraphFault → Judged
-is_refused fault.Text = not_text
-is_refused fault.NoMemory = unbuilt
-is_refused (fault.Form p) = unbuilt
-is_refused fault.SharedParams = unbuilt
-is_refused (fault.Member p) = unbuilt
-is_refused (fault.Unit p) = unbuilt
-is_refused (fault.DuplicateName p) = unbuilt
-is_refused (fault.UnknownComponent p) = unbuilt
-is_refused (fault.PortTaken p) = unbuilt
-is_refused (fault.Latency p) = unbuilt
-is_refused (fault.Limit k n) = unbuilt
-is_refused fault.Unbuilt = unbuilt
+abbrev pub refused_by : GraphFault → Judged
+refused_by reading.Text = not_text
+refused_by (reading.Form p) = at_fault fault.Form p
+refused_by reading.SharedParams = at_fault fault.SharedParams (codes "shared_params")
+refused_by (reading.Member p) = at_fault fault.Member p
+refused_by (reading.Unit p) = at_fault fault.Unit p
+refused_by (reading.DuplicateName p) = at_fault fault.DuplicateName p
+refused_by (reading.UnknownComponent p) = at_fault fault.UnknownComponent p
+refused_by (reading.PortTaken p) = at_fault fault.PortTaken p
+refused_by (reading.Latency p) = at_fault fault.Latency p
+refused_by (reading.Limit k n) = past_limit k n
+refused_by reading.NoMemory = not_text
 
 abbrev pub judged_read : List ℕ → Option GraphFault → Judged
 judged_read bytes None = judged_made (first_fault (make_checks (graph_of bytes)))
-judged_read bytes (Some f) = is_refused f
+judged_read bytes (Some f) = refused_by f
 
 unfoldable pub judge : List ℕ → Judged
 judge bytes = judged_read bytes (first_fault (text_checks bytes))

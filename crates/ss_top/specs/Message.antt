@@ -1,14 +1,53 @@
--- What a refusal's line says, in front of what it names.
-use Rattle.std.specs.Prelude.{ℕ, List, ◌++◌, codes, decimal}
+-- What a refusal's line says.
+use Rattle.std.specs.Prelude.{ℕ, List, ◌∷◌, ◌++◌, codes, decimal}
+use Rattle.ss_graph.specs.declared.fault.LimitKind.{LimitKind}
+use Rattle.ss_graph.specs.declared.fault.LimitKind.TheVariants as limit
+use Rattle.ss_top.specs.declared.refusal.Fault.{Fault}
+use Rattle.ss_top.specs.declared.refusal.Fault.TheVariants as fault
 use Rattle.ss_top.specs.declared.print.Message.{Message}
 use Rattle.ss_top.specs.declared.print.Message.TheVariants as message
 
+-- in front of what it names
 unfoldable pub message_text : Message → List ℕ
 message_text message.Usage = codes "sst: usage: "
 message_text message.NotText = codes "sst: text: "
-message_text message.Unbuilt = codes "sst: graph: Unbuilt graph"
-message_text message.GraphBytes = codes "sst: limit: graph bytes 67108865"
+message_text message.Graph = codes "sst: graph: "
+message_text message.Limit = codes "sst: limit: "
 message_text message.ReadFault = codes "sst: read fault: "
 message_text message.WriteFault = codes "sst: write fault: "
 message_text message.OutputFault = codes "sst: write fault: output"
 message_text message.NoMemory = codes "sst: no memory"
+
+-- the name of a graph's fault, and a space
+unfoldable pub fault_text : Fault → List ℕ
+fault_text fault.Form = codes "Form "
+fault_text fault.SharedParams = codes "SharedParams "
+fault_text fault.Member = codes "Member "
+fault_text fault.Unit = codes "Unit "
+fault_text fault.DuplicateName = codes "DuplicateName "
+fault_text fault.UnknownComponent = codes "UnknownComponent "
+fault_text fault.PortTaken = codes "PortTaken "
+fault_text fault.Latency = codes "Latency "
+fault_text fault.UnknownType = codes "UnknownType "
+fault_text fault.UnknownPort = codes "UnknownPort "
+fault_text fault.Param = codes "Param "
+fault_text fault.PortUnlinked = codes "PortUnlinked "
+
+-- the name of a counted quantity, and a space
+unfoldable pub limit_text : LimitKind → List ℕ
+limit_text limit.GraphBytes = codes "graph bytes "
+limit_text limit.CheckpointBytes = codes "checkpoint bytes "
+limit_text limit.Components = codes "components "
+limit_text limit.Links = codes "links "
+limit_text limit.Ports = codes "ports "
+limit_text limit.NameBytes = codes "name bytes "
+limit_text limit.Parts = codes "parts "
+limit_text limit.Threads = codes "threads "
+limit_text limit.Checkpoints = codes "checkpoints "
+
+-- the text of a line that names a fault and its place, or a quantity and the number that passed its limit
+abbrev pub fault_line : Fault → List ℕ → List ℕ
+fault_line f place = message_text message.Graph ++ (fault_text f ++ place)
+
+abbrev pub limit_line : LimitKind → ℕ → List ℕ
+limit_line k n = message_text message.Limit ++ (limit_text k ++ decimal n)

@@ -8,6 +8,7 @@ ghost use Rattle.std.specs.FinMap.{get};
 
 mod print;
 mod reading;
+mod refusal;
 mod run;
 mod simulate;
 #[cfg(test)]
@@ -16,8 +17,11 @@ mod words;
 
 pub use print::{Message, tell, tell_plain};
 use reading::{ReadStop, read_entry};
+use refusal::tell_limit;
+pub use refusal::{Fault, Refusal};
 use run::run_text;
 use ss_edge::{Shelf, Sink};
+use ss_graph::LimitKind;
 use ss_units::Text;
 use std::alloc::Global;
 pub use words::Usage;
@@ -62,7 +66,7 @@ fn run_named<V: Shelf, K: Sink, R: Sink>(
             Status::ReadFault
         }
         Err(ReadStop::TooLarge) => {
-            tell_plain(err, Message::GraphBytes);
+            tell_limit(err, LimitKind::GraphBytes, MOST_GRAPH as u64 + 1);
             Status::Limit
         }
         Err(ReadStop::NoMemory) => {

@@ -31,8 +31,8 @@ pub fn write_lines<K: Sink>(out: &mut K, lines: &[Line]) -> Result<(), Failed>
 pub enum Message {
     Usage,
     NotText,
-    Unbuilt,
-    GraphBytes,
+    Graph,
+    Limit,
     ReadFault,
     WriteFault,
     OutputFault,
@@ -46,12 +46,35 @@ fn text_of_message(message: Message) -> &'static [u8]
     match message {
         Message::Usage => b"sst: usage: ",
         Message::NotText => b"sst: text: ",
-        Message::Unbuilt => b"sst: graph: Unbuilt graph",
-        Message::GraphBytes => b"sst: limit: graph bytes 67108865",
+        Message::Graph => b"sst: graph: ",
+        Message::Limit => b"sst: limit: ",
         Message::ReadFault => b"sst: read fault: ",
         Message::WriteFault => b"sst: write fault: ",
         Message::OutputFault => b"sst: write fault: output",
         Message::NoMemory => b"sst: no memory",
+    }
+}
+
+/// Writes a line that says a message and what it names in two parts. It takes no memory.
+pub fn tell_two<R: Sink>(err: &mut R, message: Message, front: &[u8], back: &[u8])
+    ensures told { Told (line (message_text message ++ (front.now ++ back.now))) (R.taken err.old) (R.taken err.new) (R.faults err.old) (R.faults err.new) }
+    ensures faults { R.faults err.old ≤ R.faults err.new }
+{
+    match write_all(err, text_of_message(message)) {
+        Ok(()) => (),
+        Err(_) => return,
+    }
+    match write_all(err, front) {
+        Ok(()) => (),
+        Err(_) => return,
+    }
+    match write_all(err, back) {
+        Ok(()) => (),
+        Err(_) => return,
+    }
+    match write_all(err, b"\n".as_slice()) {
+        Ok(()) => (),
+        Err(_) => (),
     }
 }
 
@@ -60,18 +83,7 @@ pub fn tell<R: Sink>(err: &mut R, message: Message, named: &[u8])
     ensures told { Told (line (message_text message ++ named.now)) (R.taken err.old) (R.taken err.new) (R.faults err.old) (R.faults err.new) }
     ensures faults { R.faults err.old ≤ R.faults err.new }
 {
-    match write_all(err, text_of_message(message)) {
-        Ok(()) => (),
-        Err(_) => return,
-    }
-    match write_all(err, named) {
-        Ok(()) => (),
-        Err(_) => return,
-    }
-    match write_all(err, b"\n".as_slice()) {
-        Ok(()) => (),
-        Err(_) => (),
-    }
+    tell_two(err, message, named, b"".as_slice());
 }
 
 /// Writes a line that says a message alone. It takes no memory.

@@ -8,7 +8,8 @@ ghost use Rattle.ss_top.specs.Headline.{EndsBy, seen};
 ghost use Rattle.ss_top.specs.Writing.{Writes, EndsText};
 
 use crate::Status;
-use crate::print::{Message, tell, tell_plain, write_lines};
+use crate::print::{Message, tell_plain, write_lines};
+use crate::refusal::tell_refusal;
 use crate::simulate::{Verdict, simulate};
 use ss_edge::{Sink, write_all};
 use ss_element::Line;
@@ -70,18 +71,7 @@ pub fn run_text<K: Sink, R: Sink>(
     ensures err_faults { R.faults err.old ≤ R.faults err.new }
 {
     match simulate(alloc, text) {
-        Verdict::NoMemory => {
-            tell_plain(err, Message::NoMemory);
-            Status::NoMemory
-        }
-        Verdict::NotText => {
-            tell(err, Message::NotText, name.as_bytes());
-            Status::Text
-        }
-        Verdict::Unbuilt => {
-            tell_plain(err, Message::Unbuilt);
-            Status::Graph
-        }
+        Verdict::Refused(refusal) => tell_refusal(err, name, &refusal),
         Verdict::Ran { lines, time } => write_run(alloc, lines.as_slice(), time, out, err),
     }
 }

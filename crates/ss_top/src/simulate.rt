@@ -3,16 +3,16 @@
 ghost use Rattle.std.specs.Prelude.{◌≡◌, ◌<◌, ◌≤◌, ◌^◌, ◌++◌, ◌∷◌, [], map, length, IfOk};
 ghost use Rattle.ss_model.specs.Step.{opening};
 ghost use Rattle.ss_model.specs.End.{text_of, final_line};
-ghost use Rattle.ss_safe.specs.Safe.{Safe};
 ghost use Rattle.ss_graph.specs.Fit.{IsFit};
 ghost use Rattle.ss_graph.specs.Judge.{graph_of};
-ghost use Rattle.ss_library.specs.Kinds.{any_kind, AnyFits, LoadFits};
+ghost use Rattle.ss_library.specs.Kinds.{any_safe};
 ghost use Rattle.ss_top.specs.Judge.{Prints};
-ghost use Rattle.ss_top.specs.Simulate.{IsVerdict, IsMade, RefusedBy, UnmadeBy};
+ghost use Rattle.ss_top.specs.Simulate.{IsVerdict, IsMade};
 
+use crate::refusal::{Refusal, refused, unmade};
 use ss_element::{Line, Model};
-use ss_graph::{Graph, GraphFault, read};
-use ss_library::{Any, MakeFault, make};
+use ss_graph::{Graph, read};
+use ss_library::{Any, make};
 use ss_serial::Serial;
 use std::alloc::{AllocError, Global};
 
@@ -20,40 +20,7 @@ use std::alloc::{AllocError, Global};
 #[derive(Drop)]
 pub enum Verdict {
     Ran { lines: Vec<Line>, time: u64 },
-    NotText,
-    Unbuilt,
-    NoMemory,
-}
-
-fn refused(fault: &GraphFault) -> Verdict
-    ensures { RefusedBy fault.now result }
-{
-    match fault {
-        GraphFault::NoMemory => Verdict::NoMemory,
-        GraphFault::Text => Verdict::NotText,
-        GraphFault::Form(_) => Verdict::Unbuilt,
-        GraphFault::SharedParams => Verdict::Unbuilt,
-        GraphFault::Member(_) => Verdict::Unbuilt,
-        GraphFault::Unit(_) => Verdict::Unbuilt,
-        GraphFault::DuplicateName(_) => Verdict::Unbuilt,
-        GraphFault::UnknownComponent(_) => Verdict::Unbuilt,
-        GraphFault::PortTaken(_) => Verdict::Unbuilt,
-        GraphFault::Latency(_) => Verdict::Unbuilt,
-        GraphFault::Limit(_, _) => Verdict::Unbuilt,
-        GraphFault::Unbuilt => Verdict::Unbuilt,
-    }
-}
-
-fn unmade(fault: &MakeFault) -> Verdict
-    ensures { UnmadeBy fault.now result }
-{
-    match fault {
-        MakeFault::NoMemory => Verdict::NoMemory,
-        MakeFault::UnknownType(_) => Verdict::Unbuilt,
-        MakeFault::UnknownPort(_) => Verdict::Unbuilt,
-        MakeFault::Param(_) => Verdict::Unbuilt,
-        MakeFault::PortUnlinked(_) => Verdict::Unbuilt,
-    }
+    Refused(Refusal),
 }
 
 /// The lines of a run, and the time that its final line tells.
@@ -73,7 +40,7 @@ fn run_model(
     requires few { length model.elements.items < 2 ^ 32 }
     requires early { stop ≤ 2 ^ 62 }
     requires exits { (1 ≤ exit) × (exit ≤ 2 ^ 40) }
-    requires safe { Safe any_kind LoadFits AnyFits model.wires 0 (opening model.elements.items) }
+    requires safe { any_safe model.wires 0 (opening model.elements.items) }
     ensures { IfOk result (λ r. Prints (record { elements = model.elements.items; wires = model.wires }) (record { origin = 0; stop = stop; exit = exit }) (map text_of r.lines.items ++ final_line r.time ∷ [])) }
 {
     let mut serial = Serial::start(alloc, model)?;
@@ -89,7 +56,7 @@ fn make_and_run(alloc: Global, graph: &Graph) -> Verdict
 {
     let model = match make(alloc, graph) {
         Ok(model) => model,
-        Err(fault) => return unmade(&fault),
+        Err(fault) => return Verdict::Refused(unmade(fault)),
     };
     match run_model(
         alloc,
@@ -101,7 +68,7 @@ fn make_and_run(alloc: Global, graph: &Graph) -> Verdict
             lines: simulated.lines,
             time: simulated.time,
         },
-        Err(_) => Verdict::NoMemory,
+        Err(_) => Verdict::Refused(Refusal::NoMemory),
     }
 }
 
@@ -111,6 +78,6 @@ pub fn simulate(alloc: Global, text: &[u8]) -> Verdict
 {
     match read(alloc, text) {
         Ok(graph) => make_and_run(alloc, &graph),
-        Err(fault) => refused(&fault),
+        Err(fault) => Verdict::Refused(refused(fault)),
     }
 }

@@ -86,7 +86,6 @@ fn runs_whole(rt: HostRuntime) -> Result<(), Fail> {
 fn refuses_texts(rt: HostRuntime) -> Result<(), Fail> {
     let alloc = rt.alloc();
     let words = run_named(alloc, "g1.json")?;
-    let unbuilt = "sst: graph: Unbuilt graph\n";
     let broken = graph_case(
         &words,
         "{\"components\":[",
@@ -95,12 +94,27 @@ fn refuses_texts(rt: HostRuntime) -> Result<(), Fail> {
         "sst: text: g1.json\n",
     );
     check(&rt, alloc, &broken, Vec::new(alloc))?;
-    for graph in [
-        "{}",
-        "[]",
-        "{\"components\":[{\"name\":\"a\",\"type\":\"core.echo\"}]}",
+    for (graph, err) in [
+        ("{}", "sst: graph: Member components\n"),
+        ("[]", "sst: graph: Form graph\n"),
+        (
+            "{\"components\":[],\"shared_params\":1}",
+            "sst: graph: SharedParams shared_params\n",
+        ),
+        (
+            "{\"components\":[{\"name\":\"a\",\"type\":\"core.echo\"}]}",
+            "sst: graph: PortUnlinked components[0].port\n",
+        ),
+        (
+            "{\"components\":[{\"name\":\"a\",\"type\":\"core.other\"}]}",
+            "sst: graph: UnknownType components[0].type\n",
+        ),
+        (
+            "{\"components\":[{\"name\":\"a\",\"type\":\"core.pinger\",\"params\":{\"count\":\"01\"}}]}",
+            "sst: graph: Param components[0].params.count\n",
+        ),
     ] {
-        let case = graph_case(&words, graph, Status::Graph, "", unbuilt);
+        let case = graph_case(&words, graph, Status::Graph, "", err);
         check(&rt, alloc, &case, Vec::new(alloc))?;
     }
     Ok(())

@@ -8,4 +8,4 @@ returns-in-Ok-clause-ends g c = read_ran c.args.name.now (g.V.Shelf.held c.args.
 pub returns-in-Err-TooLarge-clause-ends : goal.returns-in-Err-TooLarge-clause-ends
 returns-in-Err-TooLarge-clause-ends g c =
     let big = c.in-Err-TooLarge.ensures.large (ap Err c.in-Err-TooLarge.field-0-is) in
-    read_large c.args.name.now (g.V.Shelf.held c.args.shelf.now) (g.V.Shelf.held c.read_entry.new.shelf) (g.V.Shelf.read_faults c.args.shelf.now) (g.V.Shelf.read_faults c.read_entry.new.shelf) (g.V.Shelf.put_faults c.args.shelf.now) (g.V.Shelf.put_faults c.read_entry.new.shelf) (g.K.Sink.taken c.args.out.now) (g.K.Sink.taken c.args.out.now) (g.K.Sink.faults c.args.out.now) (g.K.Sink.faults c.args.out.now) (g.R.Sink.taken c.args.err.now) (g.R.Sink.taken c.tell_plain.new.err) (g.R.Sink.faults c.args.err.now) (g.R.Sink.faults c.tell_plain.new.err) big.0 big.1 big.2 c.in-Err-TooLarge.ensures.same refl c.tell_plain.ensures.told
+    read_large c.args.name.now (g.V.Shelf.held c.args.shelf.now) (g.V.Shelf.held c.read_entry.new.shelf) (g.V.Shelf.read_faults c.args.shelf.now) (g.V.Shelf.read_faults c.read_entry.new.shelf) (g.V.Shelf.put_faults c.args.shelf.now) (g.V.Shelf.put_faults c.read_entry.new.shelf) (g.K.Sink.taken c.args.out.now) (g.K.Sink.taken c.args.out.now) (g.K.Sink.faults c.args.out.now) (g.K.Sink.faults c.args.out.now) (g.R.Sink.taken c.args.err.now) (g.R.Sink.taken c.tell_limit.new.err) (g.R.Sink.faults c.args.err.now) (g.R.Sink.faults c.tell_limit.new.err) big.0 big.1 big.2 c.in-Err-TooLarge.ensures.same refl c.tell_limit.ensures.told

@@ -5,7 +5,7 @@ use Rattle.std.proofs.lemmas.Grind.{common_steps}
 use Rattle.serde_json.specs.View.{view, items_view}
 use Rattle.ss_graph.specs.Checks.{Fails, first_fault}
 use Rattle.ss_graph.specs.Faults.{is_memory}
-use Rattle.ss_graph.specs.Components.{components_checks, parts_of, names_of}
+use Rattle.ss_graph.specs.Parts.{components_checks, parts_of, names_of}
 use Rattle.ss_graph.proofs.Judging.{exits}
 use Rattle.ss_graph.proofs.Components.{dropped, emptied, components_cons, components_cons_fails, components_none, made_push, noted_push}
 use Rattle.ss_graph.proofs.component.components_at.Goals as goal

@@ -1,7 +1,7 @@
 use Rattle.std.proofs.Common.{◌≡◌, ◌++◌, [], drop, map, string_bytes}
 use Rattle.serde_json.specs.View.{items_view}
 use Rattle.ss_graph.specs.Checks.{first_fault}
-use Rattle.ss_graph.specs.Components.{components_checks, parts_of, names_of}
+use Rattle.ss_graph.specs.Parts.{components_checks, parts_of, names_of}
 use Rattle.ss_graph.proofs.component.components_at.Given as goal
 
 abbrev pub invariant-loop-i : goal.invariant-loop-i

@@ -3,7 +3,8 @@ use Rattle.std.proofs.lemmas.Grind.{common_steps}
 use Rattle.serde_json.specs.Find.{get}
 use Rattle.serde_json.specs.View.{view}
 use Rattle.ss_graph.specs.Components.{text_in}
-use Rattle.ss_graph.specs.Links.{is_taken, seen_ends, has_text}
+use Rattle.ss_graph.specs.Links.{is_taken, seen_ends}
+use Rattle.ss_graph.specs.Components.{has_text}
 use Rattle.ss_graph.proofs.Ends.{taken_is, port_taken, port_free}
 use Rattle.ss_graph.proofs.link.port_at.Goals as goal
 

@@ -1,0 +1,10 @@
+use Rattle.std.proofs.Common.{◌<◌, ◌∙◌, sym, ap, Some, length}
+use Rattle.std.proofs.lemmas.Option.{slice_get-get_or}
+use Rattle.ss_stats.proofs.Places.{with_value-at}
+use Rattle.ss_stats.proofs.set.StatSet.add.Goals as goal
+
+pub returns-clause-after : goal.returns-clause-after
+returns-clause-after c =
+    let inside : c.args.index < length c.self.inside.entries.items = rw c.self.view_is c.requires in
+    let here = slice_get-get_or c.self.inside.entries.items c.args.index c.index_mut-entry.result.now inside ∙ ap Some (sym c.index_mut-entry.ensures.value ∙ sym c.entry.view_is) in
+    rw (← c.self.view_is, c.add.ensures) (with_value-at _ c.args.index c.args.v (c.entry.inside.name.items, c.entry.inside.stat) here)

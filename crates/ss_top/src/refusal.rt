@@ -1,0 +1,165 @@
+//! Why a graph text is refused.
+
+ghost use Rattle.std.specs.Prelude.{◌≡◌, ◌≤◌, ◌++◌, decimal};
+ghost use Rattle.ss_edge.specs.Edge.{Rose};
+ghost use Rattle.ss_top.specs.Answer.{line};
+ghost use Rattle.ss_top.specs.Message.{message_text, fault_text, limit_text, fault_line, limit_line};
+ghost use Rattle.ss_top.specs.Printing.{Told};
+ghost use Rattle.ss_top.specs.Simulate.{RefusedBy, UnmadeBy, TellsRefusal};
+
+use crate::Status;
+use crate::print::{Message, tell, tell_plain, tell_two};
+use itoa::Buffer;
+use ss_edge::Sink;
+use ss_graph::{GraphFault, LimitKind};
+use ss_library::MakeFault;
+use ss_units::Text;
+
+/// The faults of a graph that a line names with their place.
+#[derive(Clone, Copy, Debug, PartialEq, Eq)]
+pub enum Fault {
+    Form,
+    SharedParams,
+    Member,
+    Unit,
+    DuplicateName,
+    UnknownComponent,
+    PortTaken,
+    Latency,
+    UnknownType,
+    UnknownPort,
+    Param,
+    PortUnlinked,
+}
+
+/// Why a graph text isn't run.
+#[derive(Drop)]
+pub enum Refusal {
+    NotText,
+    Graph { fault: Fault, place: Text },
+    SharedParams,
+    Limit { kind: LimitKind, number: u64 },
+    NoMemory,
+}
+
+fn graph(fault: Fault, place: Text) -> Refusal
+    ensures { result ≡ Refusal.Graph fault place }
+{
+    Refusal::Graph { fault, place }
+}
+
+/// By the first fault of the text.
+pub fn refused(fault: GraphFault) -> Refusal
+    ensures { RefusedBy fault result }
+{
+    match fault {
+        GraphFault::Text => Refusal::NotText,
+        GraphFault::Form(place) => graph(Fault::Form, place),
+        GraphFault::SharedParams => Refusal::SharedParams,
+        GraphFault::Member(place) => graph(Fault::Member, place),
+        GraphFault::Unit(place) => graph(Fault::Unit, place),
+        GraphFault::DuplicateName(place) => graph(Fault::DuplicateName, place),
+        GraphFault::UnknownComponent(place) => graph(Fault::UnknownComponent, place),
+        GraphFault::PortTaken(place) => graph(Fault::PortTaken, place),
+        GraphFault::Latency(place) => graph(Fault::Latency, place),
+        GraphFault::Limit(kind, number) => Refusal::Limit { kind, number },
+        GraphFault::NoMemory => Refusal::NoMemory,
+    }
+}
+
+/// By the first fault of its making.
+pub fn unmade(fault: MakeFault) -> Refusal
+    ensures { UnmadeBy fault result }
+{
+    match fault {
+        MakeFault::UnknownType(place) => graph(Fault::UnknownType, place),
+        MakeFault::UnknownPort(place) => graph(Fault::UnknownPort, place),
+        MakeFault::Param(place) => graph(Fault::Param, place),
+        MakeFault::PortUnlinked(place) => graph(Fault::PortUnlinked, place),
+        MakeFault::NoMemory => Refusal::NoMemory,
+    }
+}
+
+#[tactic(auto, unfolding(crate::specs::Message::fault_text))]
+fn text_of_fault(fault: Fault) -> &'static [u8]
+    ensures { result.now ≡ fault_text fault }
+{
+    match fault {
+        Fault::Form => b"Form ",
+        Fault::SharedParams => b"SharedParams ",
+        Fault::Member => b"Member ",
+        Fault::Unit => b"Unit ",
+        Fault::DuplicateName => b"DuplicateName ",
+        Fault::UnknownComponent => b"UnknownComponent ",
+        Fault::PortTaken => b"PortTaken ",
+        Fault::Latency => b"Latency ",
+        Fault::UnknownType => b"UnknownType ",
+        Fault::UnknownPort => b"UnknownPort ",
+        Fault::Param => b"Param ",
+        Fault::PortUnlinked => b"PortUnlinked ",
+    }
+}
+
+#[tactic(auto, unfolding(crate::specs::Message::limit_text))]
+fn text_of_limit(kind: LimitKind) -> &'static [u8]
+    ensures { result.now ≡ limit_text kind }
+{
+    match kind {
+        LimitKind::GraphBytes => b"graph bytes ",
+        LimitKind::CheckpointBytes => b"checkpoint bytes ",
+        LimitKind::Components => b"components ",
+        LimitKind::Links => b"links ",
+        LimitKind::Ports => b"ports ",
+        LimitKind::NameBytes => b"name bytes ",
+        LimitKind::Parts => b"parts ",
+        LimitKind::Threads => b"threads ",
+        LimitKind::Checkpoints => b"checkpoints ",
+    }
+}
+
+/// Writes the line of a graph's fault. It takes no memory.
+fn tell_fault<R: Sink>(err: &mut R, fault: Fault, place: &[u8])
+    ensures told { Told (line (fault_line fault place.now)) (R.taken err.old) (R.taken err.new) (R.faults err.old) (R.faults err.new) }
+    ensures faults { R.faults err.old ≤ R.faults err.new }
+{
+    tell_two(err, Message::Graph, text_of_fault(fault), place);
+}
+
+/// Writes the line of a limit that a number passes. It takes no memory.
+pub fn tell_limit<R: Sink>(err: &mut R, kind: LimitKind, number: u64)
+    ensures told { Told (line (limit_line kind number)) (R.taken err.old) (R.taken err.new) (R.faults err.old) (R.faults err.new) }
+    ensures faults { R.faults err.old ≤ R.faults err.new }
+{
+    let mut buffer = Buffer::new();
+    let digits = buffer.format(number).as_bytes();
+    tell_two(err, Message::Limit, text_of_limit(kind), digits);
+}
+
+/// Writes the line of a refusal of the bytes that stand under a name. It takes no memory.
+pub fn tell_refusal<R: Sink>(err: &mut R, name: &str, refusal: &Refusal) -> Status
+    ensures told { TellsRefusal name.now refusal.now (R.taken err.old) (R.taken err.new) (R.faults err.old) (R.faults err.new) result }
+    ensures faults { R.faults err.old ≤ R.faults err.new }
+{
+    match refusal {
+        Refusal::NotText => {
+            tell(err, Message::NotText, name.as_bytes());
+            Status::Text
+        }
+        Refusal::Graph { fault, place } => {
+            tell_fault(err, *fault, place.as_str().as_bytes());
+            Status::Graph
+        }
+        Refusal::SharedParams => {
+            tell_fault(err, Fault::SharedParams, b"shared_params");
+            Status::Graph
+        }
+        Refusal::Limit { kind, number } => {
+            tell_limit(err, *kind, *number);
+            Status::Limit
+        }
+        Refusal::NoMemory => {
+            tell_plain(err, Message::NoMemory);
+            Status::NoMemory
+        }
+    }
+}
