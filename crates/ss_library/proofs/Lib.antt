@@ -3,3 +3,4 @@ pub mod Numbered
 pub mod Lines
 pub mod Ports
 pub mod Opening
+pub mod Joined

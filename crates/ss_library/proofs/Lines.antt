@@ -37,10 +37,11 @@ lines_count ps js = numbered_length (lines_of ps) 2 0 js (λ i j. grind arith)
 pub inner_few : (i : ℕ) (p : Part) → length (inner_of i p) ≤ 1
 inner_few i p = by_kind (kind_named p.kind)
   where
-    by_kind : (o : Option KindName) → length (inner_by i o) ≤ 1
+    by_kind : (o : Option KindName) → length (inner_by i p o) ≤ 1
     by_kind None = grind arith
     by_kind (Some kind.Pinger) = grind arith
     by_kind (Some kind.Echo) = grind arith
+    by_kind (Some kind.Ticker) = grind arith
 
 pub wires_are : (w : Wiring) (ls : List LinkLine) (ys : List InnerLine) → w.links ≡ ls → w.inner ≡ ys → w ≡ record { links = ls; inner = ys }
 wires_are w ls ys e f = rw (← e, ← f) refl

@@ -34,6 +34,7 @@ differ : (o : Option KindName) → Differ (ports_of o)
 differ None = tt
 differ (Some kind.Pinger) = (tt, tt)
 differ (Some kind.Echo) = (tt, tt)
+differ (Some kind.Ticker) = ((refl, (refl, (refl, (refl, tt)))), ((refl, (refl, (refl, tt))), ((refl, (refl, tt)), ((refl, tt), (tt, tt)))))
 
 same_bytes : (a b : List ℕ) → bytes_eq a b ≡ true → a ≡ b
 same_bytes a b h = grind (arith, bytes_eq-Decides)

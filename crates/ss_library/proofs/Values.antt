@@ -1,11 +1,15 @@
 -- The values of parameters are within what their rows say.
-use Rattle.std.proofs.Common.{◌≡◌, ℕ, ◌+◌, ◌-◌, ◌*◌, ◌^◌, ◌<◌, ◌≤◌, ◌==◌, List, [], ◌∷◌, length, Bool, true, false, cond, Option, Some, None, Result, Ok, Err, refl, arith, lit≤}
-use Rattle.std.specs.Prelude.{nat_le, nat_lt, ◌&&◌}
+use Rattle.std.proofs.Common.{◌≡◌, ℕ, ◌+◌, ◌-◌, ◌*◌, ◌^◌, ◌<◌, ◌≤◌, ◌==◌, List, [], ◌∷◌, length, Bool, true, false, cond, Option, Some, None, is_some, Result, Ok, Err, refl, arith, lit≤}
+use Rattle.std.specs.Prelude.{nat_le, nat_lt, ◌&&◌, unwrap_or}
 use Rattle.std.proofs.lemmas.Bool.Decides.{nat_tests}
-use Rattle.ss_units.specs.Units.{ps}
+use Rattle.ss_units.specs.Units.{ps, period}
 use Rattle.ss_units.specs.declared.units.UnitFault.{UnitFault}
 use Rattle.ss_graph.specs.Options.{ranged, the}
-use Rattle.ss_library.specs.Tables.{digits_value, count_value, at_least, value_or, param_value, given, param_text, count_row, delay_row}
+use Rattle.ss_library.specs.Tables.{digits_value, count_value, at_least, value_or, param_value, given, param_text, truth_value, count_row, delay_row, clock_row, primary_row}
+
+pub the_is : (o : Option ℕ) → unwrap_or o 0 ≡ the o
+the_is None = refl
+the_is (Some n) = refl
 
 -- what is there is at most this
 abbrev AtMost : ℕ → Option ℕ → Type 0
@@ -56,3 +60,27 @@ delay_by (Some s) = range_within 0 (2 ^ 40) (ps s)
 
 pub delay_fits : (given_ones : List (List ℕ × List ℕ)) → the (param_value given_ones delay_row) ≤ 2 ^ 40
 delay_fits given_ones = delay_by (given given_ones (param_text delay_row.name))
+
+-- what is there is at least this
+abbrev AtLeast : ℕ → Option ℕ → Type 0
+AtLeast least o = is_some o ≡ true → least ≤ the o
+
+by_low : (least most n : ℕ) (t : Bool) → nat_le least n && nat_le n most ≡ t → AtLeast least (cond t (Some n) None)
+by_low least most n true e h = grind (arith, nat_tests)
+by_low least most n false e h = absurd (cc)
+
+range_above : (least most : ℕ) (r : Result ℕ UnitFault) → AtLeast least (ranged least most r)
+range_above least most (Ok n) h = by_low least most n (nat_le least n && nat_le n most) refl h
+range_above least most (Err e) h = absurd (cc)
+
+clock_most : (o : Option (List ℕ)) → the (value_or clock_row o) ≤ 2 ^ 40
+clock_most None = omega arith
+clock_most (Some s) = range_within 1 (2 ^ 40) (period s)
+
+clock_least : (o : Option (List ℕ)) → is_some (value_or clock_row o) ≡ true → 1 ≤ the (value_or clock_row o)
+clock_least None h = omega arith
+clock_least (Some s) h = range_above 1 (2 ^ 40) (period s) h
+
+-- a clock's period, where it is one
+pub clock_fits : (given_ones : List (List ℕ × List ℕ)) → is_some (param_value given_ones clock_row) ≡ true → (1 ≤ the (param_value given_ones clock_row)) × (the (param_value given_ones clock_row) ≤ 2 ^ 40)
+clock_fits given_ones h = (clock_least (given given_ones (param_text clock_row.name)) h, clock_most (given given_ones (param_text clock_row.name)))

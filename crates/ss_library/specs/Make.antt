@@ -1,9 +1,9 @@
 -- The making of a graph: its checks in order, and the elements and the wires of one that passes them.
-use Rattle.std.specs.Prelude.{ℕ, ◌==◌, length, ◌+◌, List, [], ◌∷◌, ◌++◌, map, Bool, true, false, not, ◌||◌, Option, Some, None, is_some, option_and_then, slice_get, codes}
+use Rattle.std.specs.Prelude.{ℕ, ◌==◌, length, ◌+◌, ◌==◌, List, [], ◌∷◌, ◌++◌, map, Bool, true, false, not, ◌||◌, Option, Some, None, is_some, option_and_then, slice_get, codes}
 use Rattle.ss_model.specs.declared.LinkLine.{LinkLine}
 use Rattle.ss_model.specs.declared.InnerLine.{InnerLine}
 use Rattle.ss_model.specs.declared.InnerLine.TheVariants as inner
-use Rattle.ss_model.specs.Wiring.{Wiring}
+use Rattle.ss_model.specs.Wiring.{Wiring, link_at}
 use Rattle.ss_graph.specs.declared.graph.Graph.{Graph}
 use Rattle.ss_graph.specs.declared.graph.Join.{Join}
 use Rattle.ss_graph.specs.declared.graph.Part.{Part}
@@ -20,7 +20,7 @@ use Rattle.ss_library.specs.declared.table.ParamRow.{ParamRow}
 use Rattle.ss_library.specs.declared.table.PortRow.{PortRow}
 use Rattle.ss_library.specs.declared.fault.MakeFault.{MakeFault}
 use Rattle.ss_library.specs.declared.fault.MakeFault.TheVariants as fault
-use Rattle.ss_library.specs.Tables.{kind_named, params_table, param_text, count_row, delay_row, param_value, port_text, ports_table, port_from}
+use Rattle.ss_library.specs.Tables.{kind_named, params_table, param_text, count_row, delay_row, clock_row, primary_row, param_value, port_text, ports_table, port_from}
 
 -- which fault tells that memory ran out
 abbrev pub is_memory : MakeFault → Bool
@@ -68,6 +68,7 @@ value p r = the (param_value p.params r)
 abbrev pub element_by : Part → Option KindName → Any
 element_by p (Some kind.Pinger) = any.Pinger (record { name = p.name; count = value p count_row; sent = 0; got = 0; at = 0 })
 element_by p (Some kind.Echo) = any.Echo (record { delay = value p delay_row })
+element_by p (Some kind.Ticker) = any.Ticker (record { name = p.name; count = value p count_row; primary = value p primary_row == 1; linked = false; begun = false; ticks = 0 })
 element_by p None = any.Echo (record { delay = 0 })
 
 abbrev pub element_of : Part → Any
@@ -135,17 +136,29 @@ make_checks g =
     ++ (links_checks g.components g.links
     ++ all_ports_checks (ends_of g.links) g.components)
 
--- the self lines and clocks of component i: an echo has a self line
-abbrev pub inner_by : ℕ → Option KindName → List InnerLine
-inner_by i None = []
-inner_by i (Some kind.Pinger) = []
-inner_by i (Some kind.Echo) = inner.Own i 0 ∷ []
+-- the self lines and clocks of component i: an echo has a self line, and a ticker a clock
+abbrev pub inner_by : ℕ → Part → Option KindName → List InnerLine
+inner_by i p None = []
+inner_by i p (Some kind.Pinger) = []
+inner_by i p (Some kind.Echo) = inner.Own i 0 ∷ []
+inner_by i p (Some kind.Ticker) = inner.Clock i 0 (value p clock_row) ∷ []
 
 abbrev pub inner_of : ℕ → Part → List InnerLine
-inner_of i p = inner_by i (kind_named p.kind)
+inner_of i p = inner_by i p (kind_named p.kind)
 
 abbrev pub wiring_of : Graph → Wiring
 wiring_of g = record { links = each_numbered (lines_of g.components) 0 g.links; inner = each_numbered inner_of 0 g.components }
+
+-- component i, where a ticker knows whether a line leads from its first port
+abbrev pub joined : Wiring → ℕ → Any → Any
+joined w i (any.Pinger p) = any.Pinger p
+joined w i (any.Echo e) = any.Echo e
+joined w i (any.Ticker t) = any.Ticker (record t { linked = is_some (link_at w i 0) })
+
+-- the components from number n on
+unfoldable pub joined_from : Wiring → ℕ → List Any → List Any
+joined_from w n [] = []
+joined_from w n (x ∷ xs) = joined w n x ∷ joined_from w (n + 1) xs
 
 -- a simulation that is about to begin: its elements in order, and the wires between them
 pub record Made : Type 0 where
@@ -153,4 +166,4 @@ pub record Made : Type 0 where
   pub wires : Wiring
 
 abbrev pub model_of : Graph → Made
-model_of g = record { elements = map element_of g.components; wires = wiring_of g }
+model_of g = record { elements = joined_from (wiring_of g) 0 (map element_of g.components); wires = wiring_of g }

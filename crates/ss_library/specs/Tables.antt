@@ -1,7 +1,8 @@
 -- The kinds' names, and the tables of their parameters and ports.
-use Rattle.std.specs.Prelude.{ℕ, ◌+◌, ◌*◌, ◌-◌, ◌^◌, ◌==◌, ◌&&◌, List, [], ◌∷◌, length, nat_le, nat_lt, if◌then◌else◌, Option, Some, None, true, codes}
+use Rattle.std.specs.Prelude.{ℕ, ◌+◌, ◌*◌, ◌-◌, ◌^◌, ◌==◌, ◌&&◌, List, [], ◌∷◌, length, nat_le, nat_lt, if◌then◌else◌, Option, Some, None, true, false, codes}
 use Rattle.std.specs.Str.{bytes_eq}
-use Rattle.ss_graph.specs.Options.{time_of}
+use Rattle.ss_units.specs.Units.{period}
+use Rattle.ss_graph.specs.Options.{ranged, time_of}
 use Rattle.ss_library.specs.declared.table.KindName.{KindName}
 use Rattle.ss_library.specs.declared.table.KindName.TheVariants as kind
 use Rattle.ss_library.specs.declared.table.ParamName.{ParamName}
@@ -14,13 +15,15 @@ use Rattle.ss_library.specs.declared.table.PortName.TheVariants as port
 use Rattle.ss_library.specs.declared.table.PortRow.{PortRow}
 
 abbrev pub kind_named : List ℕ → Option KindName
-kind_named s = if bytes_eq s (codes "core.pinger") then Some kind.Pinger else (if bytes_eq s (codes "core.echo") then Some kind.Echo else None)
+kind_named s = if bytes_eq s (codes "core.pinger") then Some kind.Pinger else (if bytes_eq s (codes "core.echo") then Some kind.Echo else (if bytes_eq s (codes "core.ticker") then Some kind.Ticker else None))
 
 -- ---- parameters
 
 abbrev pub param_text : ParamName → List ℕ
 param_text param.Count = codes "count"
 param_text param.Delay = codes "delay"
+param_text param.Clock = codes "clock"
+param_text param.Primary = codes "primary"
 
 abbrev pub count_row : ParamRow
 count_row = record { name = param.Count; form = form.Count 0 (2 ^ 32 - 1); default = Some 1 }
@@ -28,9 +31,16 @@ count_row = record { name = param.Count; form = form.Count 0 (2 ^ 32 - 1); defau
 abbrev pub delay_row : ParamRow
 delay_row = record { name = param.Delay; form = form.Time 0 (2 ^ 40); default = Some 0 }
 
+abbrev pub clock_row : ParamRow
+clock_row = record { name = param.Clock; form = form.Period 1 (2 ^ 40); default = Some 1000 }
+
+abbrev pub primary_row : ParamRow
+primary_row = record { name = param.Primary; form = form.Truth; default = Some 1 }
+
 abbrev pub params_table : KindName → List ParamRow
 params_table kind.Pinger = count_row ∷ []
 params_table kind.Echo = delay_row ∷ []
+params_table kind.Ticker = clock_row ∷ count_row ∷ primary_row ∷ []
 
 -- the number that digits write behind v, where it is at most `most`
 abbrev pub digits_value : ℕ → ℕ → List ℕ → Option ℕ
@@ -46,9 +56,15 @@ abbrev pub at_least : ℕ → Option ℕ → Option ℕ
 at_least least None = None
 at_least least (Some n) = if nat_le least n then Some n else None
 
+-- a truth value: 1 where it is true, and 0 where it is false
+abbrev pub truth_value : List ℕ → Option ℕ
+truth_value s = if bytes_eq s (codes "true") then Some 1 else (if bytes_eq s (codes "false") then Some 0 else None)
+
 abbrev pub value_of : Form → List ℕ → Option ℕ
 value_of (form.Count least most) s = at_least least (count_value most s)
 value_of (form.Time least most) s = time_of least most (Some s)
+value_of (form.Period least most) s = ranged least most (period s)
+value_of form.Truth s = truth_value s
 
 -- the text that a parameter is given, if any
 abbrev pub given : List (List ℕ × List ℕ) → List ℕ → Option (List ℕ)
@@ -67,13 +83,23 @@ param_value ps r = value_or r (given ps (param_text r.name))
 
 abbrev pub port_text : PortName → List ℕ
 port_text port.Port = codes "port"
+port_text port.Out = codes "out"
+port_text port.In0 = codes "in0"
+port_text port.In1 = codes "in1"
+port_text port.In2 = codes "in2"
+port_text port.In3 = codes "in3"
 
 abbrev pub the_port : PortRow
 the_port = record { name = port.Port; required = true }
 
+-- a port that needs no link
+abbrev pub free_port : PortName → PortRow
+free_port p = record { name = p; required = false }
+
 abbrev pub ports_table : KindName → List PortRow
 ports_table kind.Pinger = the_port ∷ []
 ports_table kind.Echo = the_port ∷ []
+ports_table kind.Ticker = free_port port.Out ∷ free_port port.In0 ∷ free_port port.In1 ∷ free_port port.In2 ∷ free_port port.In3 ∷ []
 
 -- the number of the first row with a name, where the rows' numbers begin with n
 abbrev pub port_from : ℕ → List PortRow → List ℕ → Option ℕ

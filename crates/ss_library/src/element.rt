@@ -8,7 +8,8 @@ use crate::fault::MakeFault;
 use crate::kinds::{Any, Echo, Pinger};
 use crate::param::param_at;
 use crate::place::item_place;
-use crate::table::{COUNT, DELAY, KindName, kind_of};
+use crate::table::{CLOCK, COUNT, DELAY, KindName, PRIMARY, kind_of};
+use crate::ticker::Ticker;
 use ss_graph::Part;
 use ss_units::Text;
 use std::alloc::Global;
@@ -32,6 +33,20 @@ fn kind_at(alloc: Global, part: &Part, index: usize) -> Result<Any, MakeFault>
         Some(KindName::Echo) => {
             let delay = param_at(alloc, part.params.as_slice(), DELAY, index)?;
             Ok(Any::Echo(Echo { delay }))
+        }
+        Some(KindName::Ticker) => {
+            let params = part.params.as_slice();
+            param_at(alloc, params, CLOCK, index)?;
+            let ticks = param_at(alloc, params, COUNT, index)?;
+            let primary = param_at(alloc, params, PRIMARY, index)?;
+            Ok(Any::Ticker(Ticker {
+                name: part.name.copy(alloc)?,
+                count: ticks as u32,
+                primary: primary == 1,
+                linked: false,
+                begun: false,
+                ticks: 0,
+            }))
         }
         None => {
             let mut place = item_place(alloc, "components", index)?;

@@ -1,11 +1,13 @@
-//! The core kinds: a pinger and an echo.
+//! The core kinds: a pinger, an echo, and an element of one of the kinds.
 
 ghost use Rattle.std.specs.Prelude.{◌≡◌, ◌<◌, ◌^◌, ◌∷◌, [], ◌++◌, OnOk, IfOk};
 ghost use Rattle.ss_library.specs.Kinds.{pong_text, sends, thrown, pinger_handled, echo_handled};
 
+use crate::ticker::Ticker;
 use itoa::Buffer;
 use ss_element::{Acts, Element};
 use ss_model::{Action, Cause};
+use ss_safe::Local;
 use ss_units::Text;
 use std::alloc::{AllocError, Global};
 
@@ -43,10 +45,11 @@ pub struct Echo {
 pub enum Any {
     Pinger(Pinger),
     Echo(Echo),
+    Ticker(Ticker),
 }
 
 /// Sends a number out of the port.
-fn send(n: u32, acts: &mut Acts<Load>) -> Result<(), AllocError>
+pub(crate) fn send(n: u32, acts: &mut Acts<Load>) -> Result<(), AllocError>
     ensures { OnOk result (acts.new ≡ acts.old ++ sends n ∷ []) }
 {
     acts.push(Action::Send {
@@ -166,6 +169,7 @@ impl Element for Any {
         match self {
             Any::Pinger(pinger) => pinger.handle(now, cause, acts),
             Any::Echo(echo) => echo.handle(cause, acts),
+            Any::Ticker(ticker) => ticker.handle(now, cause, acts),
         }
     }
 
@@ -173,6 +177,7 @@ impl Element for Any {
         match self {
             Any::Pinger(_) => true,
             Any::Echo(_) => false,
+            Any::Ticker(ticker) => ticker.primary,
         }
     }
 
@@ -180,10 +185,23 @@ impl Element for Any {
         match self {
             Any::Pinger(pinger) => pinger.got == pinger.count,
             Any::Echo(_) => true,
+            Any::Ticker(ticker) => ticker.ticks == ticker.count,
         }
     }
 
-    fn clock_on(&self, _clock: u16) -> bool {
-        false
+    fn clock_on(&self, clock: u16) -> bool {
+        match self {
+            Any::Pinger(_) | Any::Echo(_) => false,
+            Any::Ticker(ticker) => ticker.begun && clock == 0 && ticker.ticks < ticker.count,
+        }
     }
+}
+
+impl Local for Any {
+    ghost use Rattle.ss_library.specs.Kinds.{any_allowed};
+    ghost use Rattle.ss_library.specs.Laws.{any_laws};
+
+    ghost allowed = { any_allowed };
+
+    ghost local = { any_laws };
 }

@@ -10,7 +10,9 @@ mod place;
 mod table;
 #[cfg(test)]
 mod tests;
+mod ticker;
 
 pub use fault::MakeFault;
 pub use kinds::{Any, Echo, Load, Pinger};
 pub use making::make;
+pub use ticker::Ticker;

@@ -10,13 +10,15 @@ ghost use Rattle.ss_graph.specs.Options.{the};
 ghost use Rattle.ss_graph.specs.Links.{is_taken};
 ghost use Rattle.ss_graph.specs.Fit.{IsFit, ends_of};
 ghost use Rattle.ss_library.specs.Tables.{port_text, kind_named};
-ghost use Rattle.ss_library.specs.Make.{is_memory, each_numbered, port_in, ports_of as rows_of, port_check, link_checks, links_checks, lines_of, ports_checks, all_ports_checks, inner_of, make_checks, model_of, Made};
+ghost use Rattle.ss_library.specs.Make.{is_memory, each_numbered, port_in, ports_of as rows_of, port_check, link_checks, links_checks, lines_of, ports_checks, all_ports_checks, inner_of, make_checks, model_of, joined, joined_from, Made};
 
 use crate::element::elements_of;
 use crate::fault::MakeFault;
 use crate::kinds::Any;
+use crate::param::row_value;
 use crate::place::item_place;
-use crate::table::{KindName, PortRow, kind_of, port_name, port_of, ports_of};
+use crate::table::{CLOCK, KindName, PortRow, kind_of, port_name, port_of, ports_of};
+use crate::ticker::OUT;
 use ss_element::{Model, Wires};
 use ss_graph::{Graph, Join, Part, PortEnd};
 use ss_units::Text;
@@ -93,12 +95,17 @@ fn lines(alloc: Global, graph: &Graph) -> Result<Wires, MakeFault>
 }
 
 /// Adds the self lines and clocks of component `index`.
+#[tactic(auto, using(crate::proofs::Values::the_is))]
 fn add_inner_of(part: &Part, index: u32, wires: &mut Wires) -> Result<(), AllocError>
     requires { entries wires.old < 2 ^ 32 - 1 }
     ensures { OnOk result (wires.new ≡ record { links = wires.old.links; inner = wires.old.inner ++ inner_of index part.now }) }
 {
     match kind_of(part.kind.as_str()) {
         Some(KindName::Echo) => wires.own_line(index, 0),
+        Some(KindName::Ticker) => {
+            let period = row_value(part.params.as_slice(), CLOCK).unwrap_or(0);
+            wires.clock(index, 0, period)
+        }
         Some(KindName::Pinger) | None => Ok(()),
     }
 }
@@ -176,6 +183,25 @@ fn all_linked(alloc: Global, graph: &Graph, wires: &Wires) -> Result<(), MakeFau
     Ok(())
 }
 
+/// Tells a ticker whether a line leads from its port `out`.
+fn join_one(element: &mut Any, index: u32, wires: &Wires)
+    ensures { element.new ≡ joined wires.now index element.old }
+{
+    if let Any::Ticker(ticker) = element {
+        ticker.linked = wires.line_from(index, OUT).is_some();
+    }
+}
+
+/// Tells each ticker whether a line leads from its port `out`.
+fn join_all(elements: &mut [Any], wires: &Wires)
+    requires few { length elements.old ≤ 2 ^ 16 }
+    ensures { elements.new ≡ joined_from wires.now 0 elements.old }
+{
+    for index in 0..elements.len() {
+        join_one(&mut elements[index], index as u32, wires);
+    }
+}
+
 /// The elements and the wires of a graph that was read, or the first check that fails. The checks in order:
 /// each component's type is known, and its parameters are as its kind's table says; each link's ends name
 /// ports of their components' kinds, left then right; each component's required ports are linked. The lines
@@ -188,9 +214,10 @@ pub fn make(alloc: Global, graph: &Graph) -> Result<Model<Any>, MakeFault>
     ensures judged { Judged is_memory (λ m. record { elements = m.elements.items; wires = m.wires }) result (make_checks graph.now) (model_of graph.now) }
 {
     let parts = graph.components.as_slice();
-    let elements = elements_of(alloc, parts)?;
+    let mut elements = elements_of(alloc, parts)?;
     let mut wires = lines(alloc, graph)?;
     all_linked(alloc, graph, &wires)?;
     add_inner(parts, &mut wires)?;
+    join_all(elements.as_mut_slice(), &wires);
     Ok(Model { elements, wires })
 }

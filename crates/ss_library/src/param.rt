@@ -2,14 +2,14 @@
 
 ghost use Rattle.std.specs.Prelude.{◌≡◌, ◌≤◌, ◌∷◌, [], IfOk};
 ghost use Rattle.ss_graph.specs.Checks.{Judged};
-ghost use Rattle.ss_graph.specs.Options.{the};
-ghost use Rattle.ss_library.specs.Tables.{digits_value, count_value, value_of, param_value};
+ghost use Rattle.ss_graph.specs.Options.{the, ranged};
+ghost use Rattle.ss_library.specs.Tables.{digits_value, count_value, truth_value, value_of, param_value};
 ghost use Rattle.ss_library.specs.Make.{is_memory, row_check};
 
 use crate::fault::MakeFault;
 use crate::place::item_place;
 use crate::table::{Form, ParamRow, param_name};
-use ss_units::{Text, ps_of};
+use ss_units::{Text, UnitFault, period_of, ps_of};
 use std::alloc::Global;
 
 /// The number that digits write, where it is at most `most`.
@@ -40,6 +40,30 @@ fn count_of(text: &[u8], most: u64) -> Option<u64>
     }
 }
 
+fn truth_of(text: &str) -> Option<u64>
+    ensures { result ≡ truth_value text.now }
+{
+    match text {
+        "true" => Some(1),
+        "false" => Some(0),
+        _ => None,
+    }
+}
+
+/// A time that is from the least to the most.
+fn within(answer: Result<u64, UnitFault>, least: u64, most: u64) -> Option<u64>
+    ensures { result ≡ ranged least most answer }
+{
+    match answer {
+        Err(_) => None,
+        Ok(n) => if least <= n && n <= most {
+            Some(n)
+        } else {
+            None
+        },
+    }
+}
+
 /// The value of a parameter's text.
 fn value_at(form: Form, text: &str) -> Option<u64>
     ensures { result ≡ value_of form text.now }
@@ -49,19 +73,14 @@ fn value_at(form: Form, text: &str) -> Option<u64>
             None => None,
             Some(n) => if n >= least { Some(n) } else { None },
         },
-        Form::Time { least, most } => match ps_of(text.as_bytes()) {
-            Err(_) => None,
-            Ok(n) => if least <= n && n <= most {
-                Some(n)
-            } else {
-                None
-            },
-        },
+        Form::Time { least, most } => within(ps_of(text.as_bytes()), least, most),
+        Form::Period { least, most } => within(period_of(text.as_bytes()), least, most),
+        Form::Truth => truth_of(text),
     }
 }
 
 /// The value of a row.
-fn row_value(params: &[(Text, Text)], row: ParamRow) -> Option<u64>
+pub fn row_value(params: &[(Text, Text)], row: ParamRow) -> Option<u64>
     ensures { result ≡ param_value params.now row }
 {
     for param in params {

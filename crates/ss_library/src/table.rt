@@ -1,13 +1,14 @@
 //! The kinds' names, and the tables of their parameters and ports.
 
 ghost use Rattle.std.specs.Prelude.{◌≡◌, ◌<◌, ◌≤◌, ◌^◌, slice_get, length, IfSome};
-ghost use Rattle.ss_library.specs.Tables.{kind_named, param_text, port_text, count_row, delay_row, ports_table, port_by};
+ghost use Rattle.ss_library.specs.Tables.{kind_named, param_text, port_text, count_row, delay_row, clock_row, primary_row, ports_table, port_by};
 
 /// The name of a kind.
 #[derive(Clone, Copy, Debug, PartialEq, Eq)]
 pub enum KindName {
     Pinger,
     Echo,
+    Ticker,
 }
 
 /// The name of a parameter.
@@ -15,15 +16,21 @@ pub enum KindName {
 pub enum ParamName {
     Count,
     Delay,
+    Clock,
+    Primary,
 }
 
-/// What the text of a parameter writes: a number from the least to the most.
+/// What the text of a parameter writes: a number, from the least to the most where there are such.
 #[derive(Clone, Copy, Debug, PartialEq, Eq)]
 pub enum Form {
     /// Decimal digits without a leading 0, or 0.
     Count { least: u64, most: u64 },
     /// A time, in picoseconds.
     Time { least: u64, most: u64 },
+    /// A time, or a frequency that stands for the time between two of its beats, in picoseconds.
+    Period { least: u64, most: u64 },
+    /// `true`, which is 1, or `false`, which is 0.
+    Truth,
 }
 
 /// A row of a kind's table of parameters. A parameter with no default is required.
@@ -38,6 +45,11 @@ pub struct ParamRow {
 #[derive(Clone, Copy, Debug, PartialEq, Eq)]
 pub enum PortName {
     Port,
+    Out,
+    In0,
+    In1,
+    In2,
+    In3,
 }
 
 /// A row of a kind's table of ports. A port that is required must be linked.
@@ -47,7 +59,7 @@ pub struct PortRow {
     pub required: bool,
 }
 
-/// How many numbers a pinger sends.
+/// How many numbers a pinger sends, and how often a ticker ticks.
 pub const COUNT: ParamRow = ParamRow {
     name: ParamName::Count,
     form: Form::Count {
@@ -67,10 +79,50 @@ pub const DELAY: ParamRow = ParamRow {
     default: Some(0),
 };
 
+/// How long it is from tick to tick.
+pub const CLOCK: ParamRow = ParamRow {
+    name: ParamName::Clock,
+    form: Form::Period {
+        least: 1,
+        most: 1 << 40,
+    },
+    default: Some(1000),
+};
+
+/// Whether a ticker keeps the simulation going.
+pub const PRIMARY: ParamRow = ParamRow {
+    name: ParamName::Primary,
+    form: Form::Truth,
+    default: Some(1),
+};
+
 static ONE_PORT: [PortRow; 1] = [PortRow {
     name: PortName::Port,
     required: true,
 }];
+
+static TICKER_PORTS: [PortRow; 5] = [
+    PortRow {
+        name: PortName::Out,
+        required: false,
+    },
+    PortRow {
+        name: PortName::In0,
+        required: false,
+    },
+    PortRow {
+        name: PortName::In1,
+        required: false,
+    },
+    PortRow {
+        name: PortName::In2,
+        required: false,
+    },
+    PortRow {
+        name: PortName::In3,
+        required: false,
+    },
+];
 
 /// The kind of a name.
 pub fn kind_of(text: &str) -> Option<KindName>
@@ -79,6 +131,7 @@ pub fn kind_of(text: &str) -> Option<KindName>
     match text {
         "core.pinger" => Some(KindName::Pinger),
         "core.echo" => Some(KindName::Echo),
+        "core.ticker" => Some(KindName::Ticker),
         _ => None,
     }
 }
@@ -89,6 +142,8 @@ pub fn param_name(name: ParamName) -> &'static str
     match name {
         ParamName::Count => "count",
         ParamName::Delay => "delay",
+        ParamName::Clock => "clock",
+        ParamName::Primary => "primary",
     }
 }
 
@@ -97,6 +152,11 @@ pub fn port_name(name: PortName) -> &'static str
 {
     match name {
         PortName::Port => "port",
+        PortName::Out => "out",
+        PortName::In0 => "in0",
+        PortName::In1 => "in1",
+        PortName::In2 => "in2",
+        PortName::In3 => "in3",
     }
 }
 
@@ -107,6 +167,7 @@ pub fn ports_of(kind: KindName) -> &'static [PortRow]
 {
     match kind {
         KindName::Pinger | KindName::Echo => &ONE_PORT,
+        KindName::Ticker => &TICKER_PORTS,
     }
 }
 

@@ -5,7 +5,7 @@ ghost use Rattle.std.specs.List.{All, IsDistinct};
 ghost use Rattle.ss_graph.specs.Links.{same_end};
 ghost use Rattle.ss_graph.specs.Fit.{IsFit, IsSoundLink, ends_of};
 
-use crate::{Any, Echo, Load, MakeFault, Pinger, make};
+use crate::{Any, Echo, Load, MakeFault, Pinger, Ticker, make};
 use ss_element::{Action, Acts, Cause, Element, Model};
 use ss_graph::{Graph, Join, Options, Part, PortEnd, read};
 use ss_units::{Items, Text};
@@ -97,6 +97,69 @@ fn an_echo_waits(rt: HostRuntime) -> Result<(), Fail> {
     Ok(())
 }
 
+/// A ticker that ticks twice.
+fn ticker(alloc: Global, ticks: u32) -> Result<Ticker, AllocError> {
+    Ok(Ticker {
+        name: Text::new(alloc, "tick")?,
+        count: 2,
+        primary: true,
+        linked: true,
+        begun: ticks > 0,
+        ticks,
+    })
+}
+
+#[test]
+fn a_ticker_begins(rt: HostRuntime) -> Result<(), Fail> {
+    let mut ticker = ticker(rt.alloc(), 0)?;
+    let mut acts = Acts::new(rt.alloc());
+    ticker.handle(0, &Cause::Start, &mut acts)?;
+    assert!(rt; matches!(acts.get(0), Some(Action::ClockOn { clock: 0 })));
+    assert_eq!(rt; acts.len(), 1);
+    let element = Any::Ticker(ticker);
+    assert!(rt; element.clock_on(0));
+    assert!(rt; element.is_primary());
+    assert!(rt; !element.is_done());
+    Ok(())
+}
+
+#[test]
+fn a_ticker_ticks(rt: HostRuntime) -> Result<(), Fail> {
+    for (ticks, now, line, next, last) in [
+        (0, 1000, "tick: tick 1 at 1000 ps\n", 1, false),
+        (1, 2000, "tick: tick 2 at 2000 ps\n", 2, true),
+    ] {
+        let mut ticker = ticker(rt.alloc(), ticks)?;
+        let mut acts = Acts::new(rt.alloc());
+        ticker.handle(now, &Cause::Tick { clock: 0 }, &mut acts)?;
+        assert!(rt; prints(acts.get(0), line));
+        assert_eq!(rt; sent(acts.get(1)), Some((0, 0, next)));
+        assert_eq!(rt;
+            matches!(acts.get(2), Some(Action::ClockOff { clock: 0 })),
+            last
+        );
+        assert_eq!(rt; ticker.ticks, next);
+    }
+    Ok(())
+}
+
+#[test]
+fn a_ticker_prints_what_comes(rt: HostRuntime) -> Result<(), Fail> {
+    for (port, line) in [
+        (1, "tick: event 9 on in0 at 5 ps\n"),
+        (4, "tick: event 9 on in3 at 5 ps\n"),
+        (0, "tick: event 9 on out at 5 ps\n"),
+    ] {
+        let mut ticker = ticker(rt.alloc(), 1)?;
+        let mut acts = Acts::new(rt.alloc());
+        let load = Load::Core { n: 9 };
+        ticker.handle(5, &Cause::Link { port, load }, &mut acts)?;
+        assert!(rt; prints(acts.get(0), line));
+        assert_eq!(rt; acts.len(), 1);
+    }
+    Ok(())
+}
+
 #[test]
 fn a_graph_is_made(rt: HostRuntime) -> Result<(), Fail> {
     let graph = read(rt.alloc(), GRAPH.as_bytes()).ok().ok_or("a graph")?;
@@ -179,6 +242,48 @@ fn astray(alloc: Global) -> Result<Graph, AllocError>
     graph(alloc, part(alloc, "core.pinger", "count", "1")?, links)
 }
 
+/// A graph of one ticker whose port `out` is joined to its port `in1`.
+fn looped(alloc: Global) -> Result<Graph, AllocError>
+    ensures { IfOk result (λ g. IsFit g) }
+{
+    let mut links = Vec::new(alloc);
+    links.push(Join {
+        name: Text::new(alloc, "wire")?,
+        left: PortEnd {
+            component: 0,
+            port: Text::new(alloc, "out")?,
+            latency: 1,
+        },
+        right: PortEnd {
+            component: 0,
+            port: Text::new(alloc, "in1")?,
+            latency: 1,
+        },
+    })?;
+    graph(alloc, part(alloc, "core.ticker", "clock", "1us")?, links)
+}
+
+/// What is to be said of a ticker that was made.
+fn told(element: Option<&Any>) -> Option<(u32, bool, bool)> {
+    match element {
+        Some(Any::Ticker(t)) => Some((t.count, t.primary, t.linked)),
+        _ => None,
+    }
+}
+
+#[test]
+fn tickers_are_made(rt: HostRuntime) -> Result<(), Fail> {
+    let graph = looped(rt.alloc())?;
+    let model = make(rt.alloc(), &graph).ok().ok_or("a model")?;
+    assert_eq!(rt; told(model.elements.get(0)), Some((1, true, true)));
+    assert_eq!(rt; model.wires.clock_of(0, 0), Some((2, 1_000_000)));
+    let graph = lone(rt.alloc(), "core.ticker", "primary", "false")?;
+    let model = make(rt.alloc(), &graph).ok().ok_or("a model")?;
+    assert_eq!(rt; told(model.elements.get(0)), Some((1, false, false)));
+    assert_eq!(rt; model.wires.clock_of(0, 0), Some((0, 1000)));
+    Ok(())
+}
+
 fn fault_of(answer: Result<Model<Any>, MakeFault>) -> (&'static str, Option<Text>) {
     match answer {
         Ok(_) => ("made", None),
@@ -248,6 +353,27 @@ fn refusals(rt: HostRuntime) -> Result<(), Fail> {
             "2s",
             "Param",
             "components[0].params.delay",
+        ),
+        (
+            "core.ticker",
+            "clock",
+            "0ps",
+            "Param",
+            "components[0].params.clock",
+        ),
+        (
+            "core.ticker",
+            "count",
+            "-1",
+            "Param",
+            "components[0].params.count",
+        ),
+        (
+            "core.ticker",
+            "primary",
+            "yes",
+            "Param",
+            "components[0].params.primary",
         ),
         (
             "core.echo",

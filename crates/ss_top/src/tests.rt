@@ -83,6 +83,38 @@ fn runs_whole(rt: HostRuntime) -> Result<(), Fail> {
 }
 
 #[test]
+fn runs_clocks(rt: HostRuntime) -> Result<(), Fail> {
+    let alloc = rt.alloc();
+    let words = run_named(alloc, "g1.json")?;
+    for (graph, out) in [
+        (
+            "{\"components\":[{\"name\":\"a\",\"type\":\"core.ticker\",\"params\":{\"clock\":\"1ns\",\"count\":1}},{\"name\":\"b\",\"type\":\"core.ticker\",\"params\":{\"clock\":\"1ns\",\"count\":1}},{\"name\":\"c\",\"type\":\"core.ticker\",\"params\":{\"count\":0}}],\"links\":[{\"name\":\"x\",\"left\":{\"component\":\"b\",\"port\":\"out\",\"latency\":\"1ns\"},\"right\":{\"component\":\"c\",\"port\":\"in1\",\"latency\":\"1ns\"}},{\"name\":\"y\",\"left\":{\"component\":\"a\",\"port\":\"out\",\"latency\":\"1ns\"},\"right\":{\"component\":\"c\",\"port\":\"in0\",\"latency\":\"1ns\"}}]}",
+            "a: tick 1 at 1000 ps\nb: tick 1 at 1000 ps\nc: event 1 on in1 at 2000 ps\nc: event 1 on in0 at 2000 ps\nSimulation is complete, simulated time: 1000000 ps\n",
+        ),
+        (
+            "{\"components\":[{\"name\":\"a\",\"type\":\"core.ticker\",\"params\":{\"clock\":\"1ns\",\"count\":1}},{\"name\":\"b\",\"type\":\"core.ticker\",\"params\":{\"clock\":\"2ns\",\"count\":1}}],\"links\":[{\"name\":\"x\",\"left\":{\"component\":\"a\",\"port\":\"out\",\"latency\":\"1ns\"},\"right\":{\"component\":\"b\",\"port\":\"in0\",\"latency\":\"1ns\"}}]}",
+            "a: tick 1 at 1000 ps\nb: tick 1 at 2000 ps\nb: event 1 on in0 at 2000 ps\nSimulation is complete, simulated time: 1000000 ps\n",
+        ),
+        (
+            "{\"components\":[{\"name\":\"a\",\"type\":\"core.ticker\",\"params\":{\"clock\":\"999999ps\",\"count\":1}}]}",
+            "a: tick 1 at 999999 ps\nSimulation is complete, simulated time: 1000000 ps\n",
+        ),
+        (
+            "{\"components\":[{\"name\":\"a\",\"type\":\"core.ticker\",\"params\":{\"clock\":\"1us\",\"count\":1}}]}",
+            "a: tick 1 at 1000000 ps\nSimulation is complete, simulated time: 2000000 ps\n",
+        ),
+        (
+            "{\"program_options\":{\"stop-at\":\"3ns\"},\"components\":[{\"name\":\"ping\",\"type\":\"core.pinger\",\"params\":{\"count\":3}},{\"name\":\"echo\",\"type\":\"core.echo\"}],\"links\":[{\"name\":\"x\",\"left\":{\"component\":\"ping\",\"port\":\"port\",\"latency\":\"1ns\"},\"right\":{\"component\":\"echo\",\"port\":\"port\",\"latency\":\"1ns\"}}]}",
+            "ping: pong 1 at 2000 ps\nSimulation is complete, simulated time: 3000 ps\n",
+        ),
+    ] {
+        let case = graph_case(&words, graph, Status::Whole, out, "");
+        check(&rt, alloc, &case, Vec::new(alloc))?;
+    }
+    Ok(())
+}
+
+#[test]
 fn refuses_texts(rt: HostRuntime) -> Result<(), Fail> {
     let alloc = rt.alloc();
     let words = run_named(alloc, "g1.json")?;

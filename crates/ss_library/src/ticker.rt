@@ -1,0 +1,124 @@
+//! A core kind with a clock: a ticker.
+
+ghost use Rattle.std.specs.Prelude.{◌≡◌, ◌∷◌, [], ◌++◌, OnOk, IfOk};
+ghost use Rattle.ss_library.specs.Kinds.{tick_text, event_text, port_label, ticked, ticker_handled};
+
+use crate::kinds::{Load, send};
+use crate::table::{KindName, port_name, ports_of};
+use itoa::Buffer;
+use ss_element::Acts;
+use ss_model::{Action, Cause};
+use ss_units::Text;
+use std::alloc::{AllocError, Global};
+
+/// The number of a ticker's port `out`, its first.
+pub const OUT: u16 = 0;
+
+/// Ticks `count` times, and prints each tick and each number that comes. It sends the number of each tick
+/// out of its port `out` where a link leads from there.
+#[derive(Drop)]
+pub struct Ticker {
+    /// The name in the graph.
+    pub name: Text,
+    pub count: u32,
+    /// Whether it keeps the simulation going until it has ticked `count` times.
+    pub primary: bool,
+    /// Whether a link leads from port `out`.
+    pub linked: bool,
+    /// Whether its start event was handled.
+    pub begun: bool,
+    /// How many ticks there were.
+    pub ticks: u32,
+}
+
+/// The name of a ticker's port.
+fn port_label(port: u16) -> &'static str
+    ensures { result.now ≡ port_label port }
+{
+    match ports_of(KindName::Ticker).get(port as usize) {
+        Some(row) => port_name(row.name),
+        None => "",
+    }
+}
+
+impl Ticker {
+    /// What is printed at a tick.
+    fn tick_text(&self, alloc: Global, now: u64) -> Result<Text, AllocError>
+        ensures { IfOk result (λ t. t ≡ tick_text self.now.name self.now.ticks now) }
+    {
+        let name = self.name.as_str();
+        let mut digits = Buffer::new();
+        let mut text = String::with_capacity(alloc, name.len() + 64)?;
+        text.push_str(name)?;
+        text.push_str(": tick ")?;
+        text.push_str(digits.format(self.ticks))?;
+        text.push_str(" at ")?;
+        text.push_str(digits.format(now))?;
+        text.push_str(" ps\n")?;
+        Ok(Text::from_string(text))
+    }
+
+    /// What is printed when a number comes.
+    fn event_text(&self, alloc: Global, n: u32, port: u16, now: u64) -> Result<Text, AllocError>
+        ensures { IfOk result (λ t. t ≡ event_text self.now.name n (port_label port) now) }
+    {
+        let name = self.name.as_str();
+        let mut digits = Buffer::new();
+        let mut text = String::with_capacity(alloc, name.len() + 64)?;
+        text.push_str(name)?;
+        text.push_str(": event ")?;
+        text.push_str(digits.format(n))?;
+        text.push_str(" on ")?;
+        text.push_str(port_label(port))?;
+        text.push_str(" at ")?;
+        text.push_str(digits.format(now))?;
+        text.push_str(" ps\n")?;
+        Ok(Text::from_string(text))
+    }
+
+    /// Prints a tick that was counted, sends its number where that leads anywhere, and turns the clock off
+    /// after the last.
+    fn tell(&self, now: u64, acts: &mut Acts<Load>) -> Result<(), AllocError>
+        ensures { OnOk result (acts.new ≡ acts.old ++ (ticked self.now now).actions) }
+    {
+        let text = self.tick_text(acts.allocator(), now)?;
+        acts.push(Action::Print { text })?;
+        if self.linked {
+            send(self.ticks, acts)?;
+        }
+        if self.ticks == self.count {
+            acts.push(Action::ClockOff { clock: 0 })?;
+        }
+        Ok(())
+    }
+
+    pub(crate) fn handle(
+        &mut self,
+        now: u64,
+        cause: &Cause<Load>,
+        acts: &mut Acts<Load>,
+    ) -> Result<(), AllocError>
+        ensures state { OnOk result (self.new ≡ (ticker_handled self.old now cause.now).state) }
+        ensures actions { OnOk result (acts.new ≡ acts.old ++ (ticker_handled self.old now cause.now).actions) }
+    {
+        match cause {
+            Cause::Start => {
+                self.begun = true;
+                if self.count > 0 {
+                    acts.push(Action::ClockOn { clock: 0 })?;
+                }
+                Ok(())
+            }
+            Cause::Link { port, load } => {
+                let Load::Core { n } = load;
+                let text = self.event_text(acts.allocator(), *n, *port, now)?;
+                acts.push(Action::Print { text })
+            }
+            Cause::Tick { .. } => {
+                self.ticks = self.ticks.saturating_add(1).min(self.count);
+                self.tell(now, acts)
+            }
+            Cause::Own { .. } => Ok(()),
+        }
+    }
+}
