@@ -27,7 +27,7 @@ use std::alloc::Global;
 pub use words::Usage;
 use words::{graph_named, usage_name};
 
-/// How a call ended. The program ends with the variant's number, counted from 0, but for `Checkpoint`.
+/// How a call ended. The program's exit statuses are 0 to 4 for the first five variants, and 6, 7 and 8 for the others.
 #[derive(Clone, Copy, Debug, PartialEq, Eq)]
 pub enum Status {
     Whole,
@@ -80,7 +80,7 @@ fn run_named<V: Shelf, K: Sink, R: Sink>(
 ///
 /// The words are those behind the program's name: `run GRAPH`. The graph is read from the shelf, what its
 /// run prints is written to `out`, a line at a time, and a refusal writes one line to `err`.
-/// It takes turns with nobody and returns in any case. The statuses and lines are this project's own.
+/// It waits for nobody and returns in any case. The statuses and lines are this project's own.
 pub fn sst_here<V: Shelf, K: Sink, R: Sink>(
     alloc: Global,
     words: &[Text],
