@@ -1,3 +1,6 @@
 pub mod Kind
 pub mod World
 pub mod Index
+pub mod Gives
+pub mod Saving
+pub mod Stored

@@ -1,21 +1,33 @@
 //! What a simulation is made of: elements, what they ask for, and the wires between them.
 #![tactic(auto)]
 
-ghost use Rattle.std.specs.Prelude.{◌≡◌, ◌<◌, ◌^◌, [], ◌∷◌, ◌++◌, OnOk, OnErr, ◌==◌, IfSome, IfNone, List, ℕ, Bool, length};
+ghost use Rattle.std.specs.Prelude.{◌≡◌, ◌<◌, ◌^◌, [], ◌∷◌, ◌++◌, OnOk, OnErr, ◌==◌, IfSome, IfNone, List, ℕ, Bool, length, true};
 ghost use Rattle.std.specs.Slice.{IsItemAt};
 ghost use Rattle.ss_model.specs.Wiring.{Wiring};
 ghost use Rattle.ss_model.specs.Step.{State, turns_off};
 ghost use Rattle.ss_element.specs.Kind.{Kind};
 ghost use Rattle.ss_element.specs.World.{World};
+ghost use Rattle.ss_element.specs.Saving.{Saving, SavingLaws};
+ghost use Rattle.ss_element.specs.Gives.{Gives, Tells};
 
+mod fault;
+mod flow;
+mod payload;
 mod simulation;
+mod statistics;
 mod table;
 #[cfg(test)]
 mod tests;
 mod wires;
 
+pub use fault::RestoreFault;
+pub use flow::Flow;
+pub use payload::Payload;
 pub use simulation::Model;
 pub use ss_model::{ARRIVAL, Action, Cause, Event, InnerLine, Key, Line, LinkLine, START, TICK};
+use ss_stats::StatSet;
+use ss_wire::{Reader, Writer};
+pub use statistics::{restore_stats, save_stats, statistics_are_read_back};
 use std::alloc::{AllocError, Global};
 use std::collections::VecDeque;
 pub use wires::Wires;
@@ -111,15 +123,19 @@ impl<L> Acts<L> {
 }
 
 /// A kind of element. The components of a simulation are elements of one type, which may be an enum of kinds.
+/// `clock_on`, `is_primary`, `is_done`, `fits`, `fits_load`, `channels`, `flow` and `stats` take no memory.
 pub trait Element: Drop {
     /// What events carry to such elements.
-    type Load: Copy + Drop;
+    type Load: Payload;
 
     /// What there is to know of the kind.
     ghost kind: { Kind Self Self.Load };
 
     /// The states that a run can go on from, at a time.
     ghost safe: { Wiring → ℕ → State Self Self.Load → Type 0 };
+
+    /// How its elements and their loads are saved.
+    ghost saving: { Saving Self Self.Load };
 
     /// Handles a cause at the time `now`, in picoseconds, and adds what it asks for to `acts`.
     /// After an error nothing is known of the element and of `acts`.
@@ -134,6 +150,32 @@ pub trait Element: Drop {
         ensures state { OnOk result (self.new ≡ (kind.handled self.old now cause.now).state) }
         ensures actions { OnOk result (acts.new ≡ acts.old ++ (kind.handled self.old now cause.now).actions) };
 
+    /// Writes the element's state, once its start event was handled: the fields of its kind, then its statistics.
+    /// It fails only where no memory is left, and nothing is then known of `out`.
+    fn save(&self, out: &mut Writer) -> Result<(), AllocError>
+        requires { kind.begun self.now ≡ true }
+        ensures { OnOk result (out.new ≡ out.old ++ saving.spell self.now) };
+
+    /// Takes on a state that was written, as one whose start event was handled. Settings, which aren't written,
+    /// stay. After a refusal nothing is known of the element and of the reader.
+    fn restore(&mut self, alloc: Global, bytes: &mut Reader<'_>) -> Result<(), RestoreFault>
+        ensures { Gives (λ u. self.new) result bytes.new (saving.read self.old bytes.old) };
+
+    /// Reads a load that was written, as one that comes to this element. It takes no memory. After a refusal
+    /// nothing is known of the reader.
+    fn read_load(&self, bytes: &mut Reader<'_>) -> Result<Self::Load, RestoreFault>
+        ensures { Tells (λ y. y) result bytes.new (saving.read_load self.now bytes.old) };
+
+    /// Whether the element is such as a run may leave it that handled what came before the time `at`, in
+    /// picoseconds.
+    fn fits(&self, at: u64) -> bool
+        ensures { result ≡ kind.fits self.now at };
+
+    /// Whether a cause that brings a load may come to the element after all that came before the time `at`, in
+    /// picoseconds.
+    fn fits_load(&self, cause: &Cause<Self::Load>, at: u64) -> bool
+        ensures { result ≡ kind.fits_load self.now cause.now at };
+
     /// Whether the element keeps the simulation going until it is done.
     fn is_primary(&self) -> bool
         ensures { result ≡ kind.primary self.now };
@@ -146,6 +188,23 @@ pub trait Element: Drop {
     fn clock_on(&self, clock: u16) -> bool
         ensures { result ≡ kind.ticks self.now clock };
 
+    /// How many channels a port has. Ports outside of networks have none.
+    fn channels(&self, port: u16) -> u16
+        ensures { result ≡ kind.channels self.now port };
+
+    /// What stands at a channel of a port, in flits.
+    fn flow(&self, port: u16, channel: u8) -> Flow
+        requires there { channel < kind.channels self.now port }
+        requires fits { kind.fits self.now (2 ^ 62) ≡ true }
+        ensures { result ≡ kind.flow self.now port channel };
+
+    /// The statistics that are kept.
+    fn stats(&self) -> &StatSet
+        ensures { result.now ≡ kind.stats self.now };
+
     /// What an engine rests on.
     ghost laws: { World kind safe };
+
+    /// What checkpoints rest on.
+    ghost saved: { SavingLaws kind saving safe Self.Load.weighs Self.Load.spells };
 }

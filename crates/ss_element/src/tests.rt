@@ -2,7 +2,12 @@
 
 ghost use Rattle.std.specs.Prelude.{◌≡◌, length, IfOk};
 
-use crate::{ARRIVAL, Action, Acts, Cause, Event, Key, Model, START, TICK, Wires};
+use crate::{
+    ARRIVAL, Action, Acts, Cause, Event, Key, Model, RestoreFault, START, TICK, Wires,
+    restore_stats, save_stats,
+};
+use ss_stats::{Accumulator, Histogram, Stat, StatSet};
+use ss_wire::{Reader, Writer};
 use std::alloc::{AllocError, Global};
 
 fn crosses<T: Send + Sync + Drop>(_value: T) {}
@@ -81,5 +86,66 @@ fn actions_are_taken_in_order(rt: HostRuntime) -> Result<(), AllocError> {
     assert!(rt; matches!(acts.take(), Some(Action::Send { load: 3, .. })));
     acts.clear();
     assert!(rt; acts.is_empty());
+    Ok(())
+}
+
+/// No values of a round trip, and none in bins of 5 from 10 on.
+fn no_values(alloc: Global) -> Result<StatSet, AllocError>
+    ensures { IfOk result (λ s. length s ≡ 2) }
+{
+    let mut set = StatSet::new(alloc);
+    set.push(b"trip", Stat::Accumulator(Accumulator::new()))?;
+    set.push(b"size", Stat::Histogram(Histogram::new(alloc, 10, 5, 2)?))?;
+    Ok(set)
+}
+
+/// The same with some values.
+fn some_values(alloc: Global) -> Result<StatSet, AllocError> {
+    let mut set = no_values(alloc)?;
+    set.add(0, 2000);
+    set.add(0, 2000);
+    set.add(1, 9);
+    set.add(1, 10);
+    set.add(1, 20);
+    Ok(set)
+}
+
+fn saved(alloc: Global, set: &StatSet) -> Result<Vec<u8>, AllocError> {
+    let mut out = Writer::new(alloc);
+    save_stats(set, &mut out)?;
+    Ok(out.finish())
+}
+
+#[test]
+fn statistics_are_saved_and_restored(rt: HostRuntime) -> Result<(), AllocError> {
+    let set = some_values(rt.alloc())?;
+    let bytes = saved(rt.alloc(), &set)?;
+    assert_eq!(rt; bytes.len(), 96);
+    // 2 values, of the sum 4000
+    assert_eq!(rt; &bytes[..8], b"\0\0\0\0\0\0\0\x02".as_slice());
+    assert_eq!(rt; &bytes[22..24], b"\x0f\xa0".as_slice());
+    // 3 values, 1 in the first bin, none in the second
+    assert_eq!(rt; &bytes[56..64], b"\0\0\0\0\0\0\0\x03".as_slice());
+    assert_eq!(rt;
+        &bytes[80..],
+        b"\0\0\0\0\0\0\0\x01\0\0\0\0\0\0\0\0".as_slice()
+    );
+    let mut other = no_values(rt.alloc())?;
+    let mut reader = Reader::new(bytes.as_slice(), 0);
+    assert_eq!(rt; restore_stats(&mut other, &mut reader), Ok(()));
+    assert_eq!(rt; reader.at(), 96);
+    let again = saved(rt.alloc(), &other)?;
+    assert_eq!(rt; again.as_slice(), bytes.as_slice());
+    Ok(())
+}
+
+#[test]
+fn saved_statistics_may_be_too_short(rt: HostRuntime) -> Result<(), AllocError> {
+    let mut set = no_values(rt.alloc())?;
+    let mut reader = Reader::new(b"\0\0\0\0\0\0\0\x01\0\0\0".as_slice(), 0);
+    assert_eq!(rt;
+        restore_stats(&mut set, &mut reader),
+        Err(RestoreFault::Short { at: 8 })
+    );
     Ok(())
 }

@@ -8,7 +8,7 @@ use Rattle.ss_model.specs.declared.InnerLine.TheVariants as inner
 use Rattle.ss_model.specs.Wiring.{Wiring, clock_from, LinksFit, InnerFits, InnersFit}
 use Rattle.ss_element.specs.Index.{first_of, with_link, with_inner}
 use Rattle.ss_element.proofs.Places.{clock_from-append, clock_here}
-use Rattle.ss_safe.specs.Safe.{ClocksApart, WiresHold}
+use Rattle.ss_safe.specs.Safe.{owner, InnersEnd, ClocksApart, WiresHold}
 use Rattle.ss_safe.specs.Kept.Found.{some_same, none_some}
 
 -- a place of a list with one element more is one of the list, or the last
@@ -34,6 +34,7 @@ pub hold_none : (count : ℕ) → WiresHold (record { links = []; inner = [] }) 
 hold_none count = record {
   fits = record { links = tt; inner = tt };
   ends = λ n l h. absurd (none_some h);
+  owned = λ n l h. absurd (none_some h);
   apart = λ d c i period h. absurd (none_some h);
 }
 
@@ -42,6 +43,7 @@ pub hold_link : (w : Wiring) (count : ℕ) (l : LinkLine) → WiresHold w count 
 hold_link w count l hold below low high = record {
   fits = record { links = LinksFit-append w.links l hold.fits.links low high; inner = hold.fits.inner };
   ends = λ n k h. at_place n k (last_or w.links l n k h);
+  owned = hold.owned;
   apart = hold.apart;
 }
   where
@@ -49,15 +51,24 @@ hold_link w count l hold below low high = record {
     at_place n k (inl g) = hold.ends n k g
     at_place n k (inr g) = subst (λ (j : LinkLine). j.receiver < count) g.1 below
 
+-- lines of components, and one of a component more
+owned_more : (ls : List InnerLine) (l : InnerLine) (count : ℕ) → InnersEnd count ls → owner l < count → InnersEnd count (ls ++ l ∷ [])
+owned_more ls l count hold below n k h = at_place (last_or ls l n k h)
+  where
+    at_place : (slice_get ls n ≡ Some k) ⊎ ((n ≡ length ls) × (l ≡ k)) → owner k < count
+    at_place (inl g) = hold n k g
+    at_place (inr g) = subst (λ (j : InnerLine). owner j < count) g.1 below
+
 -- what is found stays found, with one line more
 kept_found : (ls : List InnerLine) (l : InnerLine) → ClocksApart ls → (d c i period : ℕ) → slice_get ls d ≡ Some (inner.Clock c i period) → clock_from 0 (ls ++ l ∷ []) c i ≡ Some (d, period)
 kept_found ls l apart d c i period h = clock_from-append 0 ls l c i ∙ ap (λ o. first_of o (clock_here (0 + length ls) l c i)) (apart d c i period h)
 
 -- a self line
-pub hold_own : (w : Wiring) (count d j : ℕ) → WiresHold w count → WiresHold (with_inner w (inner.Own d j)) count
-hold_own w count d j hold = record {
+pub hold_own : (w : Wiring) (count d j : ℕ) → WiresHold w count → d < count → WiresHold (with_inner w (inner.Own d j)) count
+hold_own w count d j hold below = record {
   fits = record { links = hold.fits.links; inner = InnersFit-append w.inner (inner.Own d j) hold.fits.inner tt };
   ends = hold.ends;
+  owned = owned_more w.inner (inner.Own d j) count hold.owned below;
   apart = λ n c i period h. at_place n c i period (last_or w.inner (inner.Own d j) n (inner.Clock c i period) h);
 }
   where
@@ -66,10 +77,11 @@ hold_own w count d j hold = record {
     at_place n c i period (inr g) = let e = g.1 in absurd (cc)
 
 -- a clock of a component and an index that have none
-pub hold_clock : (w : Wiring) (count d j period : ℕ) → WiresHold w count → clock_from 0 w.inner d j ≡ None → 1 ≤ period → period ≤ 2 ^ 40 → WiresHold (with_inner w (inner.Clock d j period)) count
-hold_clock w count d j period hold new low high = record {
+pub hold_clock : (w : Wiring) (count d j period : ℕ) → WiresHold w count → d < count → clock_from 0 w.inner d j ≡ None → 1 ≤ period → period ≤ 2 ^ 40 → WiresHold (with_inner w (inner.Clock d j period)) count
+hold_clock w count d j period hold below new low high = record {
   fits = record { links = hold.fits.links; inner = InnersFit-append w.inner (inner.Clock d j period) hold.fits.inner (low, high) };
   ends = hold.ends;
+  owned = owned_more w.inner (inner.Clock d j period) count hold.owned below;
   apart = λ n c i p h. at_place n c i p (last_or w.inner (inner.Clock d j period) n (inner.Clock c i p) h);
 }
   where

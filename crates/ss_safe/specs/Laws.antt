@@ -5,7 +5,9 @@ use Rattle.ss_model.specs.declared.Cause.TheVariants as cause
 use Rattle.ss_model.specs.declared.Action.{Action}
 use Rattle.ss_model.specs.declared.Action.TheVariants as action
 use Rattle.ss_model.specs.Step.{Reaction}
+use Rattle.ss_wire.specs.Form.{IsForm}
 use Rattle.ss_element.specs.Kind.{Kind, ActionsFit}
+use Rattle.ss_element.specs.Saving.{Saving, state_form, load_form, CauseIsOf}
 
 -- what a network reads off elements, by port and channel, and off loads. What a load weighs is whether it is a
 -- packet or a credit, its channel and its flits
@@ -17,9 +19,14 @@ pub record Meters (S L : Type 0) : Type 0 where
   pub capacity : S → ℕ → ℕ → ℕ
   pub weight : L → Option (Bool × ℕ × ℕ)
 
--- elements outside of networks
-abbrev pub no_meters : {S L : Type 0} → Meters S L
-no_meters = record { channels = λ x p. 0; credits = λ x p ch. 0; queued = λ x p ch. 0; capacity = λ x p ch. 0; weight = λ load. None }
+abbrev pub meters_of : {S L : Type 0} → Kind S L → Meters S L
+meters_of kind = record {
+  channels = kind.channels;
+  credits = λ x p ch. (kind.flow x p ch).credits;
+  queued = λ x p ch. (kind.flow x p ch).queued;
+  capacity = λ x p ch. (kind.flow x p ch).capacity;
+  weight = kind.weight;
+}
 
 -- the number, if the test holds
 abbrev pub gate : Bool → ℕ → ℕ
@@ -75,21 +82,20 @@ module _ {S L : Type 0} (meters : Meters S L) where
   pub record FlowKeeps (x : S) (why : Cause L) (r : Reaction S L) : Type 0 where
     pub credits : (p ch : ℕ) → ch < meters.channels x p → meters.credits r.state p ch + sends_all (packet_on ch) p r.actions ≡ meters.credits x p ch + takes (credit_on ch) p why
     pub queued : (p ch : ℕ) → ch < meters.channels x p → meters.queued r.state p ch + sends_all (credit_on ch) p r.actions ≡ meters.queued x p ch + takes (packet_on ch) p why
-    pub capacity : (p ch : ℕ) → ch < meters.channels x p → meters.capacity r.state p ch ≡ meters.capacity x p ch
-    pub channels : (p : ℕ) → meters.channels r.state p ≡ meters.channels x p
 
--- what may be of a kind's elements
+  -- ports have the same channels, and queues hold the same
+  pub record SameRoom (x y : S) : Type 0 where
+    pub channels : (p : ℕ) → meters.channels y p ≡ meters.channels x p
+    pub capacity : (p ch : ℕ) → ch < meters.channels x p → meters.capacity y p ch ≡ meters.capacity x p ch
+
+-- what may be of a kind's elements, beside what their calls tell
 pub record Allowed (S L : Type 0) : Type 1 where
-  -- an element, once all that comes up to a time is handled
-  pub fits : S → ℕ → Type 0
-  -- what may come at an element with a load, on a line or on a self line, once all that comes up to a time is handled
-  pub hears : S → Cause L → ℕ → Type 0
-  -- what an element may send out of a port at a time
-  pub gives : S → ℕ → L → ℕ → Type 0
-  -- an element whose start event is to come, and one whose start event was handled
+  -- what is always so of an element that was made: handling and restoring keep it
+  pub holds : S → Type 0
+  -- an element whose start event is to come
   pub first : S → Type 0
-  pub begun : S → Type 0
-  pub meters : Meters S L
+  -- what an element may send out of a port before a time
+  pub gives : S → ℕ → L → ℕ → Type 0
 
 -- what the actions turn a clock to, one after another
 abbrev pub turned_by : {L : Type 0} → ℕ → Action L → List Bool
@@ -110,33 +116,35 @@ ClockKeeps why i before (true ∷ []) after = (before ≡ false) × (after ≡ t
 ClockKeeps why i before (false ∷ []) after = (why ≡ cause.Tick i) × (after ≡ false)
 ClockKeeps why i before (a ∷ b ∷ more) after = ⊥
 
-module _ {S L : Type 0} (kind : Kind S L) (allowed : Allowed S L) where
-  -- what comes with a load may come
+module _ {S L : Type 0} (kind : Kind S L) where
+  -- what comes with a load fits the time
   abbrev pub MayHear : S → ℕ → Cause L → Type 0
-  MayHear x now cause.Start = Unit {0}
-  MayHear x now (cause.Link p y) = allowed.hears x (cause.Link p y) now
-  MayHear x now (cause.Own i y) = allowed.hears x (cause.Own i y) now
-  MayHear x now (cause.Tick i) = Unit {0}
+  MayHear x at cause.Start = Unit {0}
+  MayHear x at (cause.Link p y) = kind.fits_load x (cause.Link p y) at ≡ true
+  MayHear x at (cause.Own i y) = kind.fits_load x (cause.Own i y) at ≡ true
+  MayHear x at (cause.Tick i) = Unit {0}
 
+module _ {S L : Type 0} (kind : Kind S L) (allowed : Allowed S L) where
   -- the start comes first, at time 0, with all clocks off; and a tick comes where the clock is on
   abbrev pub IsDue : S → ℕ → Cause L → Type 0
   IsDue x now cause.Start = (now ≡ 0) × allowed.first x × ((i : ℕ) → kind.ticks x i ≡ false)
-  IsDue x now (cause.Link p y) = allowed.begun x
-  IsDue x now (cause.Own i y) = allowed.begun x
-  IsDue x now (cause.Tick i) = allowed.begun x × (kind.ticks x i ≡ true)
+  IsDue x now (cause.Link p y) = kind.begun x ≡ true
+  IsDue x now (cause.Own i y) = kind.begun x ≡ true
+  IsDue x now (cause.Tick i) = (kind.begun x ≡ true) × (kind.ticks x i ≡ true)
 
   -- an element is told, at a time, what it may be told
   pub record MayTell (x : S) (now : ℕ) (why : Cause L) : Type 0 where
-    pub fit : allowed.fits x now
+    pub holds : allowed.holds x
+    pub fit : kind.fits x (now + 1) ≡ true
     pub early : now < 2 ^ 62
-    pub heard : MayHear x now why
+    pub heard : MayHear kind x (now + 1) why
     pub due : IsDue x now why
-    pub room : HasRoom allowed.meters x why
+    pub room : HasRoom (meters_of kind) x why
 
   -- a load is sent that may be
   abbrev pub SendFits : S → ℕ → Action L → Type 0
-  SendFits x now (action.Send p extra y) = allowed.gives x p y now
-  SendFits x now (action.SelfSend i delay y) = allowed.hears x (cause.Own i y) now
+  SendFits x now (action.Send p extra y) = allowed.gives x p y (now + 1)
+  SendFits x now (action.SelfSend i delay y) = kind.fits_load x (cause.Own i y) (now + 1) ≡ true
   SendFits x now (action.ClockOn i) = Unit {0}
   SendFits x now (action.ClockOff i) = Unit {0}
   SendFits x now (action.Print text) = Unit {0}
@@ -147,25 +155,45 @@ module _ {S L : Type 0} (kind : Kind S L) (allowed : Allowed S L) where
 
   -- what became of an element that was told what it may be told
   pub record Keeps (x : S) (now : ℕ) (why : Cause L) (r : Reaction S L) : Type 0 where
-    pub fit : allowed.fits r.state now
-    pub begun : allowed.begun r.state
+    pub holds : allowed.holds r.state
+    pub fit : kind.fits r.state (now + 1) ≡ true
+    pub begun : kind.begun r.state ≡ true
+    pub alike : kind.Alike x r.state
     -- its delays are within what a run can add, and its loads may be
     pub acts : ActionsFit r.actions
     pub sends : SendsFit x now r.actions
-    pub flow : FlowKeeps allowed.meters x why r
+    pub flow : FlowKeeps (meters_of kind) x why r
     pub clocks : (i : ℕ) → ClockKeeps why i (kind.ticks x i) (turns i r.actions) (kind.ticks r.state i)
-    -- what may come still may, and what it may send it might before
-    pub hears : (other : Cause L) (at : ℕ) → allowed.hears x other at → allowed.hears r.state other at
-    pub gives : (p : ℕ) (y : L) (at : ℕ) → allowed.gives r.state p y at → allowed.gives x p y at
 
   pub record KindLaws : Type 0 where
-    -- what may be still may later
-    pub fits_later : (x : S) (now later : ℕ) → now ≤ later → later < 2 ^ 62 → allowed.fits x now → allowed.fits x later
-    pub hears_later : (x : S) (why : Cause L) (now later : ℕ) → now ≤ later → later < 2 ^ 62 → allowed.hears x why now → allowed.hears x why later
-    pub capacity_fits : (x : S) (now p ch : ℕ) → allowed.fits x now → ch < allowed.meters.channels x p → allowed.meters.capacity x p ch < 2 ^ 32
+    -- what fits a time fits every later one
+    pub fits_later : (x : S) (at later : ℕ) → at ≤ later → later ≤ 2 ^ 62 → kind.fits x at ≡ true → kind.fits x later ≡ true
+    pub loads_later : (x : S) (why : Cause L) (at later : ℕ) → at ≤ later → later ≤ 2 ^ 62 → kind.fits_load x why at ≡ true → kind.fits_load x why later ≡ true
+    pub capacity_fits : (x : S) (p ch : ℕ) → allowed.holds x → ch < kind.channels x p → (kind.flow x p ch).capacity < 2 ^ 32
+    -- to elements that are alike the same may come, and each sends what the other may send
+    pub same_room : (x y : S) → kind.Alike x y → SameRoom (meters_of kind) x y
+    pub hears_alike : (x y : S) (why : Cause L) (at : ℕ) → kind.Alike x y → kind.fits_load x why at ≡ true → kind.fits_load y why at ≡ true
+    pub gives_alike : (x y : S) (p : ℕ) (load : L) (at : ℕ) → kind.Alike x y → allowed.gives y p load at → allowed.gives x p load at
     -- an element may be told what it may, and keeps the laws
     pub meets : (x : S) (now : ℕ) (why : Cause L) → MayTell x now why → kind.Meets x now why
     pub keeps : (x : S) (now : ℕ) (why : Cause L) → MayTell x now why → Keeps x now why (kind.handled x now why)
     -- what is primary stays so, and what is done stays done
     pub primary_stays : (x : S) (now : ℕ) (why : Cause L) → kind.primary (kind.handled x now why).state ≡ kind.primary x
     pub done_stays : (x : S) (now : ℕ) (why : Cause L) → kind.done x ≡ true → kind.done (kind.handled x now why).state ≡ true
+
+  -- what a kind keeps of the saving of its elements
+  pub record KindSaves (saving : Saving S L) : Type 0 where
+    -- what is spelled is read again, whatever follows, and what is read was spelled so
+    pub states : (first : S) → IsForm (state_form saving first)
+    pub loads : (x : S) → IsForm (load_form saving x)
+    -- an element that was read is begun, has the settings of the one that read it, and is as all that were made
+    pub begun : (first x : S) → saving.IsOf first x → kind.begun x ≡ true
+    pub read_alike : (first x : S) → saving.IsOf first x → kind.Alike first x
+    pub read_holds : (first x : S) → saving.IsOf first x → allowed.holds first → allowed.holds x
+    pub alike_same : (x : S) → kind.Alike x x
+    pub alike_through : (x y z : S) → kind.Alike x y → kind.Alike y z → kind.Alike x z
+    pub handled_alike : (x : S) (now : ℕ) (why : Cause L) → kind.Meets x now why → kind.Alike x (kind.handled x now why).state
+    -- an element that is begun and fits can be read, by any with its settings, and so can a load that fits
+    pub alike_read : (first x : S) → kind.Alike first x → saving.IsOf x x → saving.IsOf first x
+    pub states_saved : (x : S) (at : ℕ) → at ≤ 2 ^ 62 → allowed.holds x → kind.begun x ≡ true → kind.fits x at ≡ true → saving.IsOf x x
+    pub loads_saved : (x : S) (why : Cause L) (at : ℕ) → allowed.holds x → MayHear kind x at why → CauseIsOf saving x why

@@ -4,3 +4,4 @@ pub mod Kept
 pub mod Worlds
 pub mod Quiet
 pub mod Growing
+pub mod Sound

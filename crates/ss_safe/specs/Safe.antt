@@ -5,9 +5,11 @@
 --
 --     ghost safe = { Safe kind allowed };
 --     ghost laws = { world_of kind allowed laws };
+--     ghost saved = { saved_of kind allowed saving laws saves };
 --
--- with `Safe` from here and `world_of` from Rattle.ss_safe.specs.Worlds. The least such kind stands in
--- Rattle.ss_safe.specs.Quiet. A kind outside of networks has `no_meters`, `no_flow` and `no_pairs`. What a
+-- with `Safe` from here, `saves` a proof of `KindSaves kind allowed saving`, and `world_of` and `saved_of` from
+-- Rattle.ss_safe.specs.Worlds. The least such kind stands in
+-- Rattle.ss_safe.specs.Quiet. A kind outside of networks, whose ports have no channels, has `no_flow` and `no_pairs`. What a
 -- simulation begins with is `Opens`, and `opening_safe` makes it safe; Rattle.ss_safe.specs.Growing gives its
 -- `WiresHold` entry by entry.
 use Rattle.std.specs.Prelude.{◌≡◌, ℕ, ◌+◌, ◌%◌, ◌<◌, ◌≤◌, ◌^◌, ◌==◌, Bool, true, false, ◌&&◌, List, [], ◌∷◌, length, slice_get, Option, Some, None, is_some}
@@ -21,7 +23,7 @@ use Rattle.ss_model.specs.Order.{IsSorted}
 use Rattle.ss_model.specs.Wiring.{Wiring, WiringFits, clock_from, link_at, inner_at, target, told}
 use Rattle.ss_model.specs.Step.{State}
 use Rattle.ss_element.specs.Kind.{Kind}
-use Rattle.ss_safe.specs.Laws.{Meters, gate, packet_on, credit_on, Allowed, MayHear}
+use Rattle.ss_safe.specs.Laws.{Meters, meters_of, gate, packet_on, credit_on, Allowed, MayHear}
 
 -- each event has the property
 abbrev pub Each : {L : Type 0} → (Event L → Type 0) → List (Event L) → Type 0
@@ -48,6 +50,14 @@ tick_at n e = one ((e.key.class == 1) && (e.key.line == n))
 abbrev pub LinksEnd : ℕ → List LinkLine → Type 0
 LinksEnd count links = (n : ℕ) (l : LinkLine) → slice_get links n ≡ Some l → l.receiver < count
 
+-- each self line and each clock is that of a component
+abbrev pub owner : InnerLine → ℕ
+owner (inner.Own c i) = c
+owner (inner.Clock c i period) = c
+
+abbrev pub InnersEnd : ℕ → List InnerLine → Type 0
+InnersEnd count lines = (n : ℕ) (l : InnerLine) → slice_get lines n ≡ Some l → owner l < count
+
 -- each clock is the only one of its component and index
 abbrev pub ClocksApart : List InnerLine → Type 0
 ClocksApart lines = (d c i period : ℕ) → slice_get lines d ≡ Some (inner.Clock c i period) → clock_from 0 lines c i ≡ Some (d, period)
@@ -56,6 +66,7 @@ ClocksApart lines = (d c i period : ℕ) → slice_get lines d ≡ Some (inner.C
 pub record WiresHold (w : Wiring) (count : ℕ) : Type 0 where
   pub fits : WiringFits w
   pub ends : LinksEnd count w.links
+  pub owned : InnersEnd count w.inner
   pub apart : ClocksApart w.inner
 
 -- an event comes at a time or later, no more than two delays later, and a start event at time 0
@@ -123,9 +134,12 @@ module _ {S L : Type 0} (meters : Meters S L) where
   abbrev pub IsBalanced : List (Event L) → ℕ → ℕ → S → ℕ → S → ℕ → ℕ → Type 0
   IsBalanced pending l k x p y q ch = meters.credits x p ch + total (weight_at (packet_on meters ch) l) pending + meters.queued y q ch + total (weight_at (credit_on meters ch) k) pending ≡ meters.capacity y q ch
 
-  -- on each line and channel
+  -- on a line and a channel
+  abbrev pub BalancedAt : Wiring → List S → List (Event L) → ℕ → ℕ → Type 0
+  BalancedAt w xs pending l ch = (k a p b q : ℕ) (x y : S) → IsPair w l k a p b q → slice_get xs a ≡ Some x → slice_get xs b ≡ Some y → ch < meters.channels x p → ch < meters.channels y q → IsBalanced pending l k x p y q ch
+
   abbrev pub Balanced : Wiring → List S → List (Event L) → Type 0
-  Balanced w xs pending = (l k a p b q ch : ℕ) (x y : S) → IsPair w l k a p b q → slice_get xs a ≡ Some x → slice_get xs b ≡ Some y → ch < meters.channels x p → ch < meters.channels y q → IsBalanced pending l k x p y q ch
+  Balanced w xs pending = (l ch : ℕ) → BalancedAt w xs pending l ch
 
   -- the credits with which a simulation begins
   abbrev pub HasCredits : Wiring → List S → Type 0
@@ -134,22 +148,25 @@ module _ {S L : Type 0} (meters : Meters S L) where
 -- ---- the whole
 
 module _ {S L : Type 0} (kind : Kind S L) (allowed : Allowed S L) where
-  -- each element fits at a time
+  -- each element fits a time
   abbrev pub AllFit : ℕ → List S → Type 0
-  AllFit now xs = (c : ℕ) (x : S) → slice_get xs c ≡ Some x → allowed.fits x now
+  AllFit at xs = (c : ℕ) (x : S) → slice_get xs c ≡ Some x → kind.fits x at ≡ true
+
+  abbrev pub AllHold : List S → Type 0
+  AllHold xs = (c : ℕ) (x : S) → slice_get xs c ≡ Some x → allowed.holds x
 
   -- what may be sent into a line may come out of it
   abbrev pub Agrees : Wiring → List S → Type 0
-  Agrees w xs = (n : ℕ) (l : LinkLine) (x y : S) → slice_get w.links n ≡ Some l → slice_get xs l.sender ≡ Some x → slice_get xs l.receiver ≡ Some y → (load : L) (at : ℕ) → allowed.gives x l.out_port load at → allowed.hears y (cause.Link l.in_port load) at
+  Agrees w xs = (n : ℕ) (l : LinkLine) (x y : S) → slice_get w.links n ≡ Some l → slice_get xs l.sender ≡ Some x → slice_get xs l.receiver ≡ Some y → (load : L) (at : ℕ) → allowed.gives x l.out_port load at → kind.fits_load y (cause.Link l.in_port load) at ≡ true
 
-  -- what an event tells an element may come
+  -- what an event tells an element fits a time
   abbrev pub IsHeard : Wiring → List S → ℕ → Event L → Type 0
-  IsHeard w xs now e = (c : ℕ) (why : Cause L) (x : S) → told w e ≡ Some (c, why) → slice_get xs c ≡ Some x → MayHear kind allowed x now why
+  IsHeard w xs at e = (c : ℕ) (why : Cause L) (x : S) → told w e ≡ Some (c, why) → slice_get xs c ≡ Some x → MayHear kind x at why
 
   -- an element with so many start events to come
   pub record Awaits (starts : ℕ) (x : S) : Type 0 where
     pub few : starts ≤ 1
-    pub begun : starts ≡ 0 → allowed.begun x
+    pub begun : starts ≡ 0 → kind.begun x ≡ true
     pub first : starts ≡ 1 → allowed.first x
     pub off : starts ≡ 1 → (i : ℕ) → kind.ticks x i ≡ false
 
@@ -158,25 +175,32 @@ module _ {S L : Type 0} (kind : Kind S L) (allowed : Allowed S L) where
 
   -- a state that a run can go on from at a time
   pub record Safe (w : Wiring) (now : ℕ) (s : State S L) : Type 0 where
+    pub early : now < 2 ^ 62
     pub wires : WiresHold w (length s.components)
     pub agrees : Agrees w s.components
-    pub elements : AllFit now s.components
+    pub holds : AllHold s.components
+    pub elements : AllFit (now + 1) s.components
     pub sorted : IsSorted s.pending
     pub timely : Each (IsTimely now) s.pending
     pub real : Each (IsReal w (length s.components)) s.pending
-    pub heard : Each (IsHeard w s.components now) s.pending
+    pub heard : Each (IsHeard w s.components (now + 1)) s.pending
     pub in_phase : Each (IsInPhase w now) s.pending
     pub ticks : TicksMatch kind w s.components s.pending
     pub starts : StartsMatch s.components s.pending
-    pub paired : Paired allowed.meters w s.components
-    pub balanced : Balanced allowed.meters w s.components s.pending
+    pub paired : Paired (meters_of kind) w s.components
+    pub balanced : Balanced (meters_of kind) w s.components s.pending
+
+  -- components and wires that were made, or whose components were restored
+  pub record Stands (w : Wiring) (xs : List S) : Type 0 where
+    pub wires : WiresHold w (length xs)
+    pub agrees : Agrees w xs
+    pub holds : AllHold xs
+    pub paired : Paired (meters_of kind) w xs
 
   -- components and wires that a simulation can begin with
   pub record Opens (w : Wiring) (xs : List S) : Type 0 where
-    pub wires : WiresHold w (length xs)
-    pub agrees : Agrees w xs
-    pub elements : AllFit 0 xs
+    pub stands : Stands w xs
+    pub elements : AllFit 1 xs
     pub first : (c : ℕ) (x : S) → slice_get xs c ≡ Some x → allowed.first x
     pub off : (c : ℕ) (x : S) (i : ℕ) → slice_get xs c ≡ Some x → kind.ticks x i ≡ false
-    pub paired : Paired allowed.meters w xs
-    pub credits : HasCredits allowed.meters w xs
+    pub credits : HasCredits (meters_of kind) w xs

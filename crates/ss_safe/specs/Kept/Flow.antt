@@ -12,8 +12,9 @@ use Rattle.ss_model.specs.declared.InnerLine.TheVariants as inner
 use Rattle.ss_model.specs.Order.{insert_all}
 use Rattle.ss_model.specs.Wiring.{Wiring, link_at, own_at, clock_at, told}
 use Rattle.ss_model.specs.Step.{Reaction, sent, sent_own, turned_on, made, made_all, again}
-use Rattle.ss_safe.specs.Laws.{Meters, no_meters, gate, sends, sends_all, takes, packet_on, credit_on, HasRoom, FlowKeeps}
-use Rattle.ss_safe.specs.Safe.{total, IsLine, carried, weight_at, Paired, Balanced}
+use Rattle.ss_element.specs.Kind.{Kind}
+use Rattle.ss_safe.specs.Laws.{Meters, meters_of, gate, sends, sends_all, takes, packet_on, credit_on, HasRoom, FlowKeeps, SameRoom}
+use Rattle.ss_safe.specs.Safe.{total, IsLine, carried, weight_at, Paired, Balanced, HasCredits}
 use Rattle.ss_safe.specs.Kept.Events.{total-insert_all, total-made_all, total-zero, each_of, again_each}
 use Rattle.ss_safe.specs.Kept.Found.{some_same, some_pair, none_some, get_some, link_at_found, own_at_found, link_within, inner_past, ToldAs, told_as, link_of, and_iff}
 use Rattle.ss_safe.specs.Kept.Steps.{After, reacts, stays, after}
@@ -133,7 +134,7 @@ credit_in : (credits ahead queued at_k rest room credit : ℕ) → at_k ≡ cred
 credit_in credits ahead queued at_k rest room credit e h l = omega (arith, e, h, l)
 
 module _ {S L : Type 0} (meters : Meters S L) (w : Wiring) (xs : List S) (e : Event L) (rest : List (Event L)) (c : ℕ) (why : Cause L) (x : S) (t : told w e ≡ Some (c, why)) (g : slice_get xs c ≡ Some x) where
-  module _ (r : Reaction S L) (keeps : FlowKeeps meters x why r) where
+  module _ (r : Reaction S L) (keeps : FlowKeeps meters x why r) (room : SameRoom meters x r.state) where
     -- what became of a component
     record Side (d : ℕ) (z : S) : Type 0 where
       was : S
@@ -150,14 +151,14 @@ module _ {S L : Type 0} (meters : Meters S L) (w : Wiring) (xs : List S) (e : Ev
         by_component (reacts same is_new) = record {
           was = x;
           there = ap (slice_get xs) (sym same) ∙ g;
-          channels = λ p. subst (λ y. meters.channels y p ≡ meters.channels x p) is_new (keeps.channels p);
+          channels = λ p. subst (λ y. meters.channels y p ≡ meters.channels x p) is_new (room.channels p);
           credits = λ p ch in_range.
               let mine = subst (λ y. meters.credits y p ch + sends_all (packet_on meters ch) p r.actions ≡ meters.credits x p ch + takes (credit_on meters ch) p why) is_new (keeps.credits p ch in_range) in
               omega (arith, mine, gate-same c d (sends_all (packet_on meters ch) p r.actions) same, gate-same c d (takes (credit_on meters ch) p why) same);
           queued = λ p ch in_range.
               let mine = subst (λ y. meters.queued y p ch + sends_all (credit_on meters ch) p r.actions ≡ meters.queued x p ch + takes (packet_on meters ch) p why) is_new (keeps.queued p ch in_range) in
               omega (arith, mine, gate-same c d (sends_all (credit_on meters ch) p r.actions) same, gate-same c d (takes (packet_on meters ch) p why) same);
-          capacity = λ p ch in_range. subst (λ y. meters.capacity y p ch ≡ meters.capacity x p ch) is_new (keeps.capacity p ch in_range);
+          capacity = λ p ch in_range. subst (λ y. meters.capacity y p ch ≡ meters.capacity x p ch) is_new (room.capacity p ch in_range);
         }
         by_component (stays other is_old) = record {
           was = z;
@@ -179,7 +180,7 @@ module _ {S L : Type 0} (meters : Meters S L) (w : Wiring) (xs : List S) (e : Ev
         }
 
     pub balanced_kept : Balanced meters w xs (e ∷ rest) → Balanced meters w (slice_set xs c r.state) (insert_all (again w c e.key.time why r.actions) (insert_all (made_all w c e.key.time r.actions) rest))
-    balanced_kept old l k a p b q ch z y pair gz gy below_z below_y =
+    balanced_kept old l ch k a p b q z y pair gz gy below_z below_y =
         let here = side a z gz in
         let over = side b y gy in
         let in_here : ch < meters.channels here.was p = (let same = here.channels p in omega (arith, below_z, same)) in
@@ -195,7 +196,7 @@ module _ {S L : Type 0} (meters : Meters S L) (w : Wiring) (xs : List S) (e : Ev
         (weight_taken L (credit_on meters ch) w k b q a p pair.back e c why is_told)
         (weight_news L (packet_on meters ch) w l a p b q pair.ahead c e.key.time why r.actions rest)
         (weight_news L (credit_on meters ch) w k b q a p pair.back c e.key.time why r.actions rest)
-        (old l k a p b q ch here.was over.was pair here.there over.there in_here in_over)
+        (old l ch k a p b q here.was over.was pair here.there over.there in_here in_over)
 
   -- there is room for what comes
   pub has_room : Paired meters w xs → Balanced meters w xs (e ∷ rest) → ((n : ℕ) (l : LinkLine) → slice_get w.links n ≡ Some l → l.receiver < length xs) → ((d p ch : ℕ) (y : S) → slice_get xs d ≡ Some y → ch < meters.channels y p → meters.capacity y p ch < 2 ^ 32) → HasRoom meters x why
@@ -218,23 +219,31 @@ module _ {S L : Type 0} (meters : Meters S L) (w : Wiring) (xs : List S) (e : Ev
           let gz = there.1 in
           let same = back.same z gz in
           let below_z : ch < meters.channels z lk.out_port = omega (arith, below_x, same) in
-          let ahead = old n back.way lk.sender lk.out_port lk.receiver lk.in_port ch z x back.pair gz gx below_z below_x in
-          let other = old back.way n lk.receiver lk.in_port lk.sender lk.out_port ch x z (record { ahead = back.pair.back; back = back.pair.ahead }) gx gz below_x below_z in
+          let ahead = old n ch back.way lk.sender lk.out_port lk.receiver lk.in_port z x back.pair gz gx below_z below_x in
+          let other = old back.way ch n lk.receiver lk.in_port lk.sender lk.out_port x z (record { ahead = back.pair.back; back = back.pair.ahead }) gx gz below_x below_z in
           let packet = weight_taken L (packet_on meters ch) w n lk.sender lk.out_port lk.receiver lk.in_port back.pair.ahead e c (cause.Link p y) k ∙ gate-same c lk.receiver (gate (eqb p lk.in_port) (packet_on meters ch y)) (sym f.2) ∙ gate-same p lk.in_port (packet_on meters ch y) (sym f.3) in
           let credit = weight_taken L (credit_on meters ch) w n lk.sender lk.out_port lk.receiver lk.in_port back.pair.ahead e c (cause.Link p y) k ∙ gate-same c lk.receiver (gate (eqb p lk.in_port) (credit_on meters ch y)) (sym f.2) ∙ gate-same p lk.in_port (credit_on meters ch y) (sym f.3) in
           let most = bound lk.sender lk.out_port ch z gz below_z in
           let Room : ℕ → Type 0 = λ o. (meters.queued x o ch + packet_on meters ch y ≤ meters.capacity x o ch) × (meters.credits x o ch + credit_on meters ch y < 2 ^ 32) in
           subst Room f.3 (room_in _ _ _ _ _ _ _ packet ahead, credit_in _ _ _ _ _ _ _ credit other most)
 
--- outside of networks nothing flows
-pub no_flow : {S L : Type 0} (x : S) (why : Cause L) (r : Reaction S L) → FlowKeeps no_meters x why r
-no_flow x why r = record {
-  credits = λ p ch in_range. absurd (omega (arith, in_range));
-  queued = λ p ch in_range. absurd (omega (arith, in_range));
-  capacity = λ p ch in_range. absurd (omega (arith, in_range));
-  channels = λ p. refl;
-}
+-- outside of networks, where no port has channels, nothing flows
+module _ {S L : Type 0} (kind : Kind S L) (none : (x : S) (p : ℕ) → kind.channels x p ≡ 0) where
+  pub no_flow : (x : S) (why : Cause L) (r : Reaction S L) → FlowKeeps (meters_of kind) x why r
+  no_flow x why r = record {
+    credits = λ p ch in_range. absurd (omega (arith, in_range, none x p));
+    queued = λ p ch in_range. absurd (omega (arith, in_range, none x p));
+  }
 
--- nor are there lines with channels between such elements
-pub no_pairs : {S L : Type 0} (w : Wiring) (xs : List S) → Paired {L = L} no_meters w xs
-no_pairs w xs l ch link y is gy in_range = absurd (omega (arith, in_range))
+  pub no_room : (x y : S) → SameRoom (meters_of kind) x y
+  no_room x y = record {
+    channels = λ p. none y p ∙ sym (none x p);
+    capacity = λ p ch in_range. absurd (omega (arith, in_range, none x p));
+  }
+
+  -- nor are there lines with channels between such elements, nor credits
+  pub no_pairs : (w : Wiring) (xs : List S) → Paired (meters_of kind) w xs
+  no_pairs w xs l ch link y is gy in_range = absurd (omega (arith, in_range, none y link.in_port))
+
+  pub no_credits : (w : Wiring) (xs : List S) → HasCredits (meters_of kind) w xs
+  no_credits w xs l k a p b q ch x y pair gx gy in_x in_y = absurd (omega (arith, in_x, none x p))

@@ -1,5 +1,5 @@
 -- A step keeps that elements fit, that lines agree, and that what comes may come.
-use Rattle.std.proofs.Common.{◌≡◌, ℕ, ◌+◌, List, Some, sym, ap, ◌∙◌, subst}
+use Rattle.std.proofs.Common.{◌≡◌, ℕ, ◌+◌, true, List, Some, sym, ap, ◌∙◌, subst}
 use Rattle.std.specs.Prelude.{slice_get, slice_set}
 use Rattle.ss_model.specs.declared.Event.{Event}
 use Rattle.ss_model.specs.declared.Cause.{Cause}
@@ -7,18 +7,18 @@ use Rattle.ss_model.specs.declared.Cause.TheVariants as cause
 use Rattle.ss_model.specs.Wiring.{Wiring, told}
 use Rattle.ss_model.specs.Step.{Reaction, next_multiple}
 use Rattle.ss_element.specs.Kind.{Kind}
-use Rattle.ss_safe.specs.Laws.{Allowed, MayHear, SendFits, Keeps}
-use Rattle.ss_safe.specs.Safe.{AllFit, Agrees, IsHeard}
+use Rattle.ss_safe.specs.Laws.{Allowed, MayHear, SendFits, Keeps, KindLaws}
+use Rattle.ss_safe.specs.Safe.{AllFit, AllHold, Agrees, IsHeard}
 use Rattle.ss_safe.specs.Kept.Events.{Makes, arrival_event, tick_event}
 use Rattle.ss_safe.specs.Kept.Found.{some_same, some_pair, link_at_found, own_at_found, told_as, told_link, told_own}
 use Rattle.ss_safe.specs.Kept.Steps.{After, reacts, stays, after}
 
-module _ {S L : Type 0} (kind : Kind S L) (allowed : Allowed S L) where
-  hear_keeps : (x : S) (now : ℕ) (why : Cause L) (r : Reaction S L) → Keeps kind allowed x now why r → (other : Cause L) (at : ℕ) → MayHear kind allowed x at other → MayHear kind allowed r.state at other
-  hear_keeps x now why r k cause.Start at h = tt
-  hear_keeps x now why r k (cause.Link p y) at h = k.hears (cause.Link p y) at h
-  hear_keeps x now why r k (cause.Own i y) at h = k.hears (cause.Own i y) at h
-  hear_keeps x now why r k (cause.Tick i) at h = tt
+module _ {S L : Type 0} (kind : Kind S L) (allowed : Allowed S L) (laws : KindLaws kind allowed) where
+  pub hear_alike : (x y : S) (why : Cause L) (at : ℕ) → kind.Alike x y → MayHear kind x at why → MayHear kind y at why
+  hear_alike x y cause.Start at a h = tt
+  hear_alike x y (cause.Link p load) at a h = laws.hears_alike x y (cause.Link p load) at a h
+  hear_alike x y (cause.Own i load) at a h = laws.hears_alike x y (cause.Own i load) at a h
+  hear_alike x y (cause.Tick i) at a h = tt
 
   -- component c reacted
   module _ (w : Wiring) (xs : List S) (c now : ℕ) (why : Cause L) (x : S) (r : Reaction S L) (g : slice_get xs c ≡ Some x) (keeps : Keeps kind allowed x now why r) where
@@ -26,7 +26,7 @@ module _ {S L : Type 0} (kind : Kind S L) (allowed : Allowed S L) where
     record Was (d : ℕ) (z : S) : Type 0 where
       was : S
       there : slice_get xs d ≡ Some was
-      hears : (other : Cause L) (at : ℕ) → MayHear kind allowed was at other → MayHear kind allowed z at other
+      hears : (other : Cause L) (at : ℕ) → MayHear kind was at other → MayHear kind z at other
       gives : (p : ℕ) (y : L) (at : ℕ) → allowed.gives z p y at → allowed.gives was p y at
 
     was_so : (d : ℕ) (z : S) → slice_get (slice_set xs c r.state) d ≡ Some z → Was d z
@@ -36,16 +36,23 @@ module _ {S L : Type 0} (kind : Kind S L) (allowed : Allowed S L) where
         by_component (reacts same is_new) = record {
           was = x;
           there = ap (slice_get xs) (sym same) ∙ g;
-          hears = λ other at m. subst (λ y. MayHear kind allowed y at other) is_new (hear_keeps x now why r keeps other at m);
-          gives = λ p y at m. keeps.gives p y at (subst (λ s. allowed.gives s p y at) (sym is_new) m);
+          hears = λ other at m. subst (λ y. MayHear kind y at other) is_new (hear_alike x r.state other at keeps.alike m);
+          gives = λ p y at m. laws.gives_alike x r.state p y at keeps.alike (subst (λ s. allowed.gives s p y at) (sym is_new) m);
         }
         by_component (stays other is_old) = record { was = z; there = is_old; hears = λ o at m. m; gives = λ p y at m. m }
 
-    pub elements_kept : AllFit kind allowed now xs → AllFit kind allowed now (slice_set xs c r.state)
+    pub holds_kept : AllHold kind allowed xs → AllHold kind allowed (slice_set xs c r.state)
+    holds_kept hold d z h = by_component (after xs c x r.state d z g h)
+      where
+        by_component : After xs c r.state d z → allowed.holds z
+        by_component (reacts same is_new) = subst allowed.holds is_new keeps.holds
+        by_component (stays other is_old) = hold d z is_old
+
+    pub elements_kept : AllFit kind allowed (now + 1) xs → AllFit kind allowed (now + 1) (slice_set xs c r.state)
     elements_kept fit d z h = by_component (after xs c x r.state d z g h)
       where
-        by_component : After xs c r.state d z → allowed.fits z now
-        by_component (reacts same is_new) = subst (λ y. allowed.fits y now) is_new keeps.fit
+        by_component : After xs c r.state d z → kind.fits z (now + 1) ≡ true
+        by_component (reacts same is_new) = subst (λ y. kind.fits y (now + 1) ≡ true) is_new keeps.fit
         by_component (stays other is_old) = fit d z is_old
 
     pub agrees_kept : Agrees kind allowed w xs → Agrees kind allowed w (slice_set xs c r.state)
@@ -55,17 +62,17 @@ module _ {S L : Type 0} (kind : Kind S L) (allowed : Allowed S L) where
         b.hears (cause.Link l.in_port load) at (old n l a.was b.was link a.there b.there load at (a.gives l.out_port load at may))
 
     -- what was to come may come to the component as it is now
-    pub heard_kept : (e : Event L) → IsHeard kind allowed w xs now e → IsHeard kind allowed w (slice_set xs c r.state) now e
-    heard_kept e old d other z t gz = let b = was_so d z gz in b.hears other now (old d other b.was t b.there)
+    pub heard_kept : (e : Event L) → IsHeard kind allowed w xs (now + 1) e → IsHeard kind allowed w (slice_set xs c r.state) (now + 1) e
+    heard_kept e old d other z t gz = let b = was_so d z gz in b.hears other (now + 1) (old d other b.was t b.there)
 
     -- a tick may always come
-    hear_tick : (d : ℕ) (other : Cause L) (at n : ℕ) (z : S) → told {L = L} w (tick_event at n) ≡ Some (d, other) → MayHear kind allowed z now other
+    hear_tick : (d : ℕ) (other : Cause L) (at n : ℕ) (z : S) → told {L = L} w (tick_event at n) ≡ Some (d, other) → MayHear kind z (now + 1) other
     hear_tick d cause.Start at n z t = tt
     hear_tick d (cause.Link p y) at n z t = absurd (let k = (told_as w (tick_event at n) d (cause.Link p y) t).0 in cc)
     hear_tick d (cause.Own i y) at n z t = absurd (let k = (told_as w (tick_event at n) d (cause.Own i y) t).0 in cc)
     hear_tick d (cause.Tick i) at n z t = tt
 
-    pub made_heard : Agrees kind allowed w xs → Makes (IsHeard kind allowed w (slice_set xs c r.state) now) w c now (SendFits kind allowed x now)
+    pub made_heard : Agrees kind allowed w xs → Makes (IsHeard kind allowed w (slice_set xs c r.state) (now + 1)) w c now (SendFits kind allowed x now)
     made_heard agrees = record {
       link = λ p extra y n latency may e d other z t gz.
           let f = link_at_found w c p n latency e in
@@ -73,16 +80,16 @@ module _ {S L : Type 0} (kind : Kind S L) (allowed : Allowed S L) where
           let s = some_pair f.link.receiver d (cause.Link f.link.in_port y) other (sym told_so ∙ t) in
           let b = was_so d z gz in
           let there : slice_get xs f.link.receiver ≡ Some b.was = ap (slice_get xs) s.0 ∙ b.there in
-          let may_come = agrees n f.link x b.was f.is (ap (slice_get xs) f.sender ∙ g) there y now (subst (λ q. allowed.gives x q y now) (sym f.out_port) may) in
-          b.hears other now (subst (MayHear kind allowed b.was now) s.1 may_come);
+          let may_come = agrees n f.link x b.was f.is (ap (slice_get xs) f.sender ∙ g) there y (now + 1) (subst (λ q. allowed.gives x q y (now + 1)) (sym f.out_port) may) in
+          b.hears other (now + 1) (subst (MayHear kind b.was (now + 1)) s.1 may_come);
       own = λ i delay y n may e d other z t gz.
           let told_so : told w (arrival_event (now + delay) n y) ≡ Some (c, cause.Own i y) = told_own w (now + delay) n c i y (own_at_found w c i n e) in
           let s = some_pair c d (cause.Own i y) other (sym told_so ∙ t) in
           let b = was_so d z gz in
           let same : x ≡ b.was = some_same (sym g ∙ ap (slice_get xs) s.0 ∙ b.there) in
-          b.hears other now (subst (MayHear kind allowed b.was now) s.1 (subst (λ v. allowed.hears v (cause.Own i y) now) same may));
+          b.hears other (now + 1) (subst (MayHear kind b.was (now + 1)) s.1 (subst (λ v. kind.fits_load v (cause.Own i y) (now + 1) ≡ true) same may));
       on = λ i n period e d other z t gz. hear_tick d other (next_multiple now period) n z t;
     }
 
-    pub again_heard : (at n : ℕ) → IsHeard kind allowed w (slice_set xs c r.state) now (tick_event at n)
+    pub again_heard : (at n : ℕ) → IsHeard kind allowed w (slice_set xs c r.state) (now + 1) (tick_event at n)
     again_heard at n d other z t gz = hear_tick d other at n z t

@@ -69,7 +69,7 @@ module _ (L : Type 0) (w : Wiring) (d c now : ℕ) where
 
 module _ {S L : Type 0} (kind : Kind S L) (allowed : Allowed S L) where
   -- a step keeps the starts of all components
-  pub starts_kept : (w : Wiring) (xs : List S) (e : Event L) (rest : List (Event L)) (c : ℕ) (why : Cause L) (x new : S) (acts : List (Action L)) → told w e ≡ Some (c, why) → slice_get xs c ≡ Some x → total (start_at c) rest ≡ 0 → allowed.begun new → StartsMatch kind allowed xs (e ∷ rest) → StartsMatch kind allowed (slice_set xs c new) (insert_all (again w c e.key.time why acts) (insert_all (made_all w c e.key.time acts) rest))
+  pub starts_kept : (w : Wiring) (xs : List S) (e : Event L) (rest : List (Event L)) (c : ℕ) (why : Cause L) (x new : S) (acts : List (Action L)) → told w e ≡ Some (c, why) → slice_get xs c ≡ Some x → total (start_at c) rest ≡ 0 → kind.begun new ≡ true → StartsMatch kind allowed xs (e ∷ rest) → StartsMatch kind allowed (slice_set xs c new) (insert_all (again w c e.key.time why acts) (insert_all (made_all w c e.key.time acts) rest))
   starts_kept w xs e rest c why x new acts t g none begun old d z is =
       subst (λ m. Awaits kind allowed m z) (sym (starts_news L w d c e.key.time why acts rest)) (by_component (after xs c x new d z g is))
     where
@@ -78,7 +78,7 @@ module _ {S L : Type 0} (kind : Kind S L) (allowed : Allowed S L) where
           let nothing : total (start_at d) rest ≡ 0 = ap (λ k. total (start_at k) rest) (sym same) ∙ none in
           record {
             few = omega (arith, nothing);
-            begun = λ h. subst allowed.begun is_new begun;
+            begun = λ h. subst (λ y. kind.begun y ≡ true) is_new begun;
             first = λ h. absurd (omega (arith, nothing, h));
             off = λ h. absurd (omega (arith, nothing, h));
           }

@@ -18,7 +18,7 @@ use Rattle.ss_safe.specs.Kept.Found.{some_pair, link_at_found, own_at_found, clo
 link_latency : (w : Wiring) (c p n latency : ℕ) → WiringFits w → link_at w c p ≡ Some (n, latency) → (1 ≤ latency) × (latency ≤ 2 ^ 40)
 link_latency w c p n latency h e = subst SecondFits e (link_at_fits w c p h)
 
-clock_period : (w : Wiring) (c i n period : ℕ) → WiringFits w → clock_at w c i ≡ Some (n, period) → (1 ≤ period) × (period ≤ 2 ^ 40)
+pub clock_period : (w : Wiring) (c i n period : ℕ) → WiringFits w → clock_at w c i ≡ Some (n, period) → (1 ≤ period) × (period ≤ 2 ^ 40)
 clock_period w c i n period h e = subst SecondFits e (clock_at_fits w c i h)
 
 module _ {L : Type 0} where
@@ -65,7 +65,7 @@ module _ {L : Type 0} (w : Wiring) (count : ℕ) (hold : WiresHold w count) (c n
 
 -- ---- phases
 
-next_mod : (n p : ℕ) → 1 ≤ p → (n + (p - n % p)) % p ≡ 0
+pub next_mod : (n p : ℕ) → 1 ≤ p → (n + (p - n % p)) % p ≡ 0
 next_mod n p h =
     let whole : n + (p - n % p) ≡ p + p * (n / p) = omega arith in
     ap (λ x. x % p) whole ∙ add-mul-mod_self_left p p (n / p) ∙ mod_self p
