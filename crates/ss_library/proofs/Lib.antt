@@ -1,4 +1,5 @@
 pub mod Values
+pub mod Restored
 pub mod Numbered
 pub mod Lines
 pub mod Ports

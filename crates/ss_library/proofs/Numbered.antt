@@ -1,5 +1,5 @@
 -- Lists of checks that go item by item.
-use Rattle.std.proofs.Common.{◌≡◌, ℕ, ◌+◌, ◌<◌, ◌≤◌, List, [], ◌∷◌, ◌++◌, length, drop, get_or, map, Bool, Option, Some, None, refl, ap, arith, drop-cons, append_assoc, append-nil, length-append, sym, ◌∙◌, ◌*◌, true, false}
+use Rattle.std.proofs.Common.{◌≡◌, ℕ, ◌+◌, ◌<◌, ◌≤◌, List, [], ◌∷◌, ◌++◌, length, drop, get_or, map, Bool, Some, None, refl, arith, drop-cons, append_assoc, append-nil, length-append, sym, ◌∙◌, ◌*◌, true, false}
 use Rattle.std.proofs.lemmas.Grind.{common_steps}
 use Rattle.ss_graph.specs.Checks.{Check, first_fault, Fails}
 use Rattle.ss_graph.proofs.Judging.{first_fault_append, fails_front}

@@ -1,6 +1,6 @@
 -- The simulation of a graph that was read is safe as it begins.
-use Rattle.std.proofs.Common.{◌≡◌, ℕ, zero, suc, ◌+◌, ◌<◌, ◌≤◌, ◌^◌, Bool, true, false, ◌&&◌, cond, eqb, List, [], ◌∷◌, ◌++◌, length, map, Option, Some, None, is_some, refl, sym, ap, ◌∙◌, subst, arith}
-use Rattle.std.specs.Prelude.{slice_get, codes}
+use Rattle.std.proofs.Common.{◌≡◌, ℕ, zero, suc, ◌+◌, ◌<◌, ◌≤◌, Bool, true, false, ◌&&◌, cond, eqb, List, [], ◌∷◌, ◌++◌, length, map, Option, Some, None, is_some, refl, sym, ap, ◌∙◌, subst, arith}
+use Rattle.std.specs.Prelude.{slice_get, codes, replicate, nat_le}
 use Rattle.std.proofs.lemmas.Bool.{eq-eqb}
 use Rattle.std.proofs.lemmas.Bool.Decides.{nat_tests}
 use Rattle.std.specs.List.{All}
@@ -8,11 +8,11 @@ use Rattle.std.proofs.lemmas.List.Elements.{All-head, All-tail}
 use Rattle.ss_model.specs.declared.InnerLine.{InnerLine}
 use Rattle.ss_model.specs.declared.InnerLine.TheVariants as inner
 use Rattle.ss_model.specs.declared.LinkLine.{LinkLine}
-use Rattle.ss_model.specs.Wiring.{Wiring, clock_from, LinksFit, InnersFit, WiringFits}
+use Rattle.ss_model.specs.Wiring.{Wiring, clock_from, LinksFit, InnersFit}
 use Rattle.ss_model.specs.Step.{opening}
-use Rattle.ss_safe.specs.Safe.{LinksEnd, ClocksApart, Opens}
+use Rattle.ss_safe.specs.Safe.{LinksEnd, owner, InnersEnd, ClocksApart, Opens}
 use Rattle.ss_safe.specs.Kept.Found.{some_same, none_some}
-use Rattle.ss_safe.specs.Kept.Flow.{no_pairs}
+use Rattle.ss_safe.specs.Kept.Flow.{no_pairs, no_credits}
 use Rattle.ss_safe.specs.Worlds.{opening_safe}
 use Rattle.ss_graph.specs.declared.graph.Graph.{Graph}
 use Rattle.ss_graph.specs.declared.graph.Join.{Join}
@@ -26,8 +26,11 @@ use Rattle.ss_library.specs.declared.fault.MakeFault.{MakeFault}
 use Rattle.ss_library.specs.declared.fault.MakeFault.TheVariants as fault
 use Rattle.ss_graph.specs.Checks.{Check, check, at, first_fault, or_else}
 use Rattle.ss_graph.proofs.Judging.{first_fault_append}
-use Rattle.ss_library.specs.Kinds.{any_kind, any_allowed, any_safe, any_ticks, AnyFits, AnyFirst}
-use Rattle.ss_library.specs.Tables.{kind_named, param_value, clock_row}
+use Rattle.ss_element.specs.Stored.{bins_form, stat_form}
+use Rattle.ss_graph.specs.declared.graph.StatAsk.{StatAsk}
+use Rattle.ss_library.specs.Stats.{empty_by, empty_stats, StatsFit}
+use Rattle.ss_library.specs.Kinds.{any_kind, any_allowed, any_safe, any_ticks, any_fits, AnyHolds, AnyFirst}
+use Rattle.ss_library.specs.Tables.{kind_named, param_value, clock_row, count_row}
 use Rattle.ss_library.specs.Make.{each_numbered, lines_of, inner_by, inner_of, element_by, element_of, wiring_of, model_of, joined, joined_from, params_of, row_check, kind_checks, stats_checks, component_checks, components_checks, value}
 use Rattle.ss_library.proofs.Values.{count_fits, delay_fits, clock_fits}
 
@@ -142,11 +145,32 @@ clocks_all n (p ∷ ps) = clocks_front n p (kind_named p.kind) _ (clocks_all (n 
 clocks_apart : (ps : List Part) → ClocksApart (each_numbered inner_of 0 ps)
 clocks_apart ps d c i period g = (clocks_all 0 ps).found 0 d c i period g ∙ ap (λ k. Some (k, period)) {x = 0 + d} {y = d} (omega arith)
 
-element_fits : (p : Part) (o : Option KindName) → AnyFits (element_by p o) 0
-element_fits p (Some kind.Pinger) = record { count = omega (arith, count_fits p.params); sent = omega arith; got = omega arith }
-element_fits p (Some kind.Echo) = delay_fits p.params
-element_fits p (Some kind.Ticker) = record { count = omega (arith, count_fits p.params); ticks = omega arith }
-element_fits p None = omega arith
+zeros : (bins : ℕ) → (bins_form (replicate bins 0)).Fits (replicate bins 0)
+zeros zero = refl
+zeros (suc n) = (omega arith, zeros n)
+
+empty_fits : (a : StatAsk) (b : Bool) → (stat_form (empty_by a b)).Fits (empty_by a b)
+empty_fits a true = (tt, ((refl, refl), (omega arith, (omega arith, (omega arith, zeros a.bins)))))
+empty_fits a false = (tt, (tt, (omega arith, (omega arith, (omega arith, (omega arith, omega arith))))))
+
+stats_fit : (asks : List StatAsk) → StatsFit (empty_stats asks)
+stats_fit [] = refl
+stats_fit (a ∷ asks) = ((refl, empty_fits a a.histogram), stats_fit asks)
+
+element_holds : (p : Part) (o : Option KindName) → AnyHolds (element_by p o)
+element_holds p (Some kind.Pinger) = record { count = omega (arith, count_fits p.params); place = refl; stats = stats_fit p.stats }
+element_holds p (Some kind.Echo) = record { delay = delay_fits p.params; place = refl; stats = stats_fit p.stats }
+element_holds p (Some kind.Ticker) = record { count = omega (arith, count_fits p.params); place = refl; stats = stats_fit p.stats }
+element_holds p None = record { delay = omega arith; place = refl; stats = refl }
+
+zero_within : (n : ℕ) → nat_le 0 n ≡ true
+zero_within n = grind (arith, nat_tests)
+
+element_fits : (p : Part) (o : Option KindName) → any_fits (element_by p o) 1 ≡ true
+element_fits p (Some kind.Pinger) = rw zero_within refl
+element_fits p (Some kind.Echo) = refl
+element_fits p (Some kind.Ticker) = zero_within (value p count_row)
+element_fits p None = refl
 
 element_first : (p : Part) (o : Option KindName) → AnyFirst (element_by p o)
 element_first p (Some kind.Pinger) = (refl, refl, refl)
@@ -173,10 +197,15 @@ unfolding joined_from
 made_count w n [] = refl
 made_count w n (p ∷ ps) = let e = made_count w (n + 1) ps in omega (arith, e)
 
-joined_fits : (w : Wiring) (i : ℕ) (x : Any) → AnyFits x 0 → AnyFits (joined w i x) 0
+joined_holds : (w : Wiring) (i : ℕ) (x : Any) → AnyHolds x → AnyHolds (joined w i x)
+joined_holds w i (any.Pinger p) h = h
+joined_holds w i (any.Echo e) h = h
+joined_holds w i (any.Ticker t) h = record { count = h.count; place = h.place; stats = h.stats }
+
+joined_fits : (w : Wiring) (i : ℕ) (x : Any) → any_fits x 1 ≡ true → any_fits (joined w i x) 1 ≡ true
 joined_fits w i (any.Pinger p) h = h
 joined_fits w i (any.Echo e) h = h
-joined_fits w i (any.Ticker t) h = record { count = h.count; ticks = h.ticks }
+joined_fits w i (any.Ticker t) h = h
 
 joined_first : (w : Wiring) (i : ℕ) (x : Any) → AnyFirst x → AnyFirst (joined w i x)
 joined_first w i (any.Pinger p) h = h
@@ -188,20 +217,44 @@ joined_off k w i (any.Pinger p) h = h
 joined_off k w i (any.Echo e) h = h
 joined_off k w i (any.Ticker t) h = h
 
+-- each self line and each clock is that of one of the components
+inner_end : (i : ℕ) (p : Part) (o : Option KindName) (ls : List InnerLine) (count : ℕ) → i < count → InnersEnd count ls → InnersEnd count (inner_by i p o ++ ls)
+inner_end i p None ls count h rest = rest
+inner_end i p (Some kind.Pinger) ls count h rest = rest
+inner_end i p (Some kind.Echo) ls count h rest = owned
+  where
+    owned : InnersEnd count (inner.Own i 0 ∷ ls)
+    owned zero l g = subst (λ m. owner m < count) (some_same g) h
+    owned (suc n) l g = rest n l g
+inner_end i p (Some kind.Ticker) ls count h rest = owned
+  where
+    owned : InnersEnd count (inner.Clock i 0 (value p clock_row) ∷ ls)
+    owned zero l g = subst (λ m. owner m < count) (some_same g) h
+    owned (suc n) l g = rest n l g
+
+inners_end : (n count : ℕ) (ps : List Part) → n + length ps ≡ count → InnersEnd count (each_numbered inner_of n ps)
+unfolding each_numbered
+inners_end n count [] e = λ m l g. absurd (none_some g)
+inners_end n count (p ∷ ps) e = inner_end n p (kind_named p.kind) (each_numbered inner_of (n + 1) ps) count (omega arith) (inners_end (n + 1) count ps (omega (arith, e)))
+
 model_opens : (g : Graph) → IsFit g → first_fault (components_checks g.components) ≡ None → Opens any_kind any_allowed (wiring_of g) (model_of g).elements
 unfolding components_checks
 model_opens g h c = record {
-  wires = record {
-    fits = record { links = links_fit g.components 0 g.links h.links; inner = inner_fit 0 g.components c };
-    ends = subst (λ n. LinksEnd n (each_numbered (lines_of g.components) 0 g.links)) (made_count (wiring_of g) 0 g.components) (lines_end g.components 0 g.links h.links);
-    apart = clocks_apart g.components;
+  stands = record {
+    wires = record {
+      fits = record { links = links_fit g.components 0 g.links h.links; inner = inner_fit 0 g.components c };
+      ends = subst (λ n. LinksEnd n (each_numbered (lines_of g.components) 0 g.links)) (made_count (wiring_of g) 0 g.components) (lines_end g.components 0 g.links h.links);
+      owned = subst (λ n. InnersEnd n (each_numbered inner_of 0 g.components)) (made_count (wiring_of g) 0 g.components) (inners_end 0 (length g.components) g.components (omega arith));
+      apart = clocks_apart g.components;
+    };
+    agrees = λ n l x y there hx hy load at may. may;
+    holds = each_made AnyHolds (λ p. element_holds p (kind_named p.kind)) joined_holds (wiring_of g) 0 g.components;
+    paired = no_pairs any_kind (λ x port. refl) (wiring_of g) (model_of g).elements;
   };
-  agrees = λ n l x y there hx hy load at may. may;
-  elements = each_made (λ x. AnyFits x 0) (λ p. element_fits p (kind_named p.kind)) joined_fits (wiring_of g) 0 g.components;
+  elements = each_made (λ x. any_fits x 1 ≡ true) (λ p. element_fits p (kind_named p.kind)) joined_fits (wiring_of g) 0 g.components;
   first = each_made AnyFirst (λ p. element_first p (kind_named p.kind)) joined_first (wiring_of g) 0 g.components;
   off = λ b x i there. each_made (λ y. any_ticks y i ≡ false) (λ p. element_off p i (kind_named p.kind)) (joined_off i) (wiring_of g) 0 g.components b x there;
-  paired = no_pairs (wiring_of g) (model_of g).elements;
-  credits = λ l k a p b q ch x y pair gx gy in_x in_y. absurd (omega (arith, in_x));
+  credits = no_credits any_kind (λ x port. refl) (wiring_of g) (model_of g).elements;
 }
 
 pub model_safe : (g : Graph) → IsFit g → first_fault (components_checks g.components) ≡ None → any_safe (wiring_of g) 0 (opening (model_of g).elements)

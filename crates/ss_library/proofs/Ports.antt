@@ -1,15 +1,14 @@
 -- A port has a line exactly where an end names it.
-use Rattle.std.proofs.Common.{◌≡◌, ℕ, zero, suc, ◌+◌, ◌<◌, ◌≤◌, List, [], ◌∷◌, ◌++◌, Bool, true, false, cond, Option, Some, None, is_some, refl, sym, ap, ◌∙◌, subst, arith}
+use Rattle.std.proofs.Common.{◌≡◌, ℕ, zero, suc, ◌+◌, ◌≤◌, List, [], ◌∷◌, Bool, true, false, cond, Option, Some, None, is_some, refl, sym, ap, ◌∙◌, subst, arith}
 use Rattle.std.specs.Prelude.{nat_eq, slice_get, ◌&&◌, ◌||◌}
 use Rattle.std.specs.Str.{bytes_eq}
 use Rattle.std.proofs.lemmas.Bool.Decides.{nat_tests}
 use Rattle.std.proofs.lemmas.Slice.Eq.{bytes_eq-Decides}
-use Rattle.ss_model.specs.declared.LinkLine.{LinkLine}
 use Rattle.ss_model.specs.Wiring.{link_from}
 use Rattle.ss_graph.specs.declared.graph.Join.{Join}
 use Rattle.ss_graph.specs.declared.graph.Part.{Part}
 use Rattle.ss_graph.specs.declared.graph.PortEnd.{PortEnd}
-use Rattle.ss_graph.specs.Checks.{Check, first_fault}
+use Rattle.ss_graph.specs.Checks.{first_fault}
 use Rattle.ss_graph.specs.Options.{the}
 use Rattle.ss_graph.specs.Links.{same_end, is_taken, end_key}
 use Rattle.ss_graph.specs.Fit.{ends_of}
@@ -17,7 +16,7 @@ use Rattle.ss_library.specs.declared.fault.MakeFault.{MakeFault}
 use Rattle.ss_library.specs.declared.table.KindName.{KindName}
 use Rattle.ss_library.specs.declared.table.KindName.TheVariants as kind
 use Rattle.ss_library.specs.declared.table.PortRow.{PortRow}
-use Rattle.ss_library.specs.Tables.{port_text, ports_table, port_from, kind_named}
+use Rattle.ss_library.specs.Tables.{port_text, port_from, kind_named}
 use Rattle.ss_library.specs.Make.{each_numbered, kind_of_part, kind_at, ports_of, port_in, link_checks, lines_of}
 
 -- ---- the names in a table differ

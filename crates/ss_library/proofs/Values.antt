@@ -1,11 +1,11 @@
 -- The values of parameters are within what their rows say.
-use Rattle.std.proofs.Common.{◌≡◌, ℕ, ◌+◌, ◌-◌, ◌*◌, ◌^◌, ◌<◌, ◌≤◌, ◌==◌, List, [], ◌∷◌, length, Bool, true, false, cond, Option, Some, None, is_some, Result, Ok, Err, refl, arith, lit≤}
+use Rattle.std.proofs.Common.{◌≡◌, ℕ, ◌+◌, ◌-◌, ◌*◌, ◌^◌, ◌≤◌, ◌==◌, List, [], ◌∷◌, length, Bool, true, false, cond, Option, Some, None, is_some, Result, Ok, Err, refl, arith}
 use Rattle.std.specs.Prelude.{nat_le, nat_lt, ◌&&◌, unwrap_or}
 use Rattle.std.proofs.lemmas.Bool.Decides.{nat_tests}
 use Rattle.ss_units.specs.Units.{ps, period}
 use Rattle.ss_units.specs.declared.units.UnitFault.{UnitFault}
 use Rattle.ss_graph.specs.Options.{ranged, the}
-use Rattle.ss_library.specs.Tables.{digits_value, count_value, at_least, value_or, param_value, given, param_text, truth_value, count_row, delay_row, clock_row, primary_row}
+use Rattle.ss_library.specs.Tables.{digits_value, count_value, at_least, value_or, param_value, given, param_text, count_row, delay_row, clock_row}
 
 pub the_is : (o : Option ℕ) → unwrap_or o 0 ≡ the o
 the_is None = refl

@@ -1,5 +1,5 @@
 -- The making of a graph: its checks in order, and the elements and the wires of one that passes them.
-use Rattle.std.specs.Prelude.{ℕ, ◌==◌, length, ◌+◌, ◌==◌, List, [], ◌∷◌, ◌++◌, map, Bool, true, false, not, ◌||◌, Option, Some, None, is_some, option_and_then, slice_get, codes}
+use Rattle.std.specs.Prelude.{ℕ, ◌==◌, ◌+◌, List, [], ◌∷◌, ◌++◌, map, Bool, true, false, not, ◌&&◌, ◌||◌, Option, Some, None, is_some, slice_get, codes}
 use Rattle.ss_model.specs.declared.LinkLine.{LinkLine}
 use Rattle.ss_model.specs.declared.InnerLine.{InnerLine}
 use Rattle.ss_model.specs.declared.InnerLine.TheVariants as inner
@@ -18,9 +18,14 @@ use Rattle.ss_library.specs.declared.table.KindName.{KindName}
 use Rattle.ss_library.specs.declared.table.KindName.TheVariants as kind
 use Rattle.ss_library.specs.declared.table.ParamRow.{ParamRow}
 use Rattle.ss_library.specs.declared.table.PortRow.{PortRow}
+use Rattle.ss_library.specs.declared.table.StatName.{StatName}
+use Rattle.ss_library.specs.declared.table.StatName.TheVariants as stat
+use Rattle.ss_graph.specs.declared.graph.StatAsk.{StatAsk}
+use Rattle.ss_stats.specs.Set.{place_of}
+use Rattle.ss_library.specs.Stats.{empty_stats, has_bins, is_asked_before}
 use Rattle.ss_library.specs.declared.fault.MakeFault.{MakeFault}
 use Rattle.ss_library.specs.declared.fault.MakeFault.TheVariants as fault
-use Rattle.ss_library.specs.Tables.{kind_named, params_table, param_text, count_row, delay_row, clock_row, primary_row, param_value, port_text, ports_table, port_from}
+use Rattle.ss_library.specs.Tables.{kind_named, params_table, param_text, count_row, delay_row, clock_row, primary_row, param_value, stat_text, stats_table, is_among, port_text, ports_table, port_from}
 
 -- which fault tells that memory ran out
 abbrev pub is_memory : MakeFault → Bool
@@ -44,15 +49,30 @@ params_of (Some k) = params_table k
 abbrev pub row_check : ℕ → List (List ℕ × List ℕ) → ParamRow → Check MakeFault
 row_check i ps r = check (is_some (param_value ps r)) (fault.Param (at (codes "components") i ++ codes ".params." ++ param_text r.name))
 
+-- the parameters of component i, where this is its kind
+abbrev pub rows_by : ℕ → Part → Option KindName → List (Check MakeFault)
+rows_by i p o = map (row_check i p.params) (params_of o)
+
 -- component i has a kind, and its parameters are as its kind's table has them
 unfoldable pub kind_checks : ℕ → Part → List (Check MakeFault)
 kind_checks i p =
     check (is_some (kind_named p.kind)) (fault.UnknownType (at (codes "components") i ++ codes ".type"))
-    ∷ map (row_check i p.params) (params_of (kind_named p.kind))
+    ∷ rows_by i p (kind_named p.kind)
 
--- component i asks for no statistic, since no kind has one
+abbrev pub stats_of : Option KindName → List StatName
+stats_of None = []
+stats_of (Some k) = stats_table k
+
+-- statistic j of component i is one that its kind has, isn't asked for before, and has bins if it is a histogram
+abbrev pub stat_check : Option KindName → List StatAsk → ℕ → ℕ → StatAsk → Check MakeFault
+stat_check o asks i j a = check (is_among (stats_of o) a.name && (not (is_asked_before asks j a.name) && (not a.histogram || has_bins a))) (fault.Param (at (at (codes "components") i ++ codes ".statistics") j))
+
+-- the statistics of component i, where this is its kind
+unfoldable pub stats_by : ℕ → Part → Option KindName → List (Check MakeFault)
+stats_by i p o = each_numbered (λ j a. stat_check o p.stats i j a ∷ []) 0 p.stats
+
 unfoldable pub stats_checks : ℕ → Part → List (Check MakeFault)
-stats_checks i p = check (length p.stats == 0) (fault.Param (at (codes "components") i ++ codes ".statistics[0]")) ∷ []
+stats_checks i p = stats_by i p (kind_named p.kind)
 
 -- component i is of a kind, with parameters and statistics that the kind has
 unfoldable pub component_checks : ℕ → Part → List (Check MakeFault)
@@ -64,12 +84,16 @@ components_checks ps = each_numbered component_checks 0 ps
 abbrev pub value : Part → ParamRow → ℕ
 value p r = the (param_value p.params r)
 
+-- the place of a statistic among those that are asked for
+abbrev pub asked_place : Part → StatName → Option ℕ
+asked_place p name = place_of (empty_stats p.stats) (stat_text name)
+
 -- the first state of a component; one of no kind is never made
 abbrev pub element_by : Part → Option KindName → Any
-element_by p (Some kind.Pinger) = any.Pinger (record { name = p.name; count = value p count_row; sent = 0; got = 0; at = 0 })
-element_by p (Some kind.Echo) = any.Echo (record { delay = value p delay_row })
-element_by p (Some kind.Ticker) = any.Ticker (record { name = p.name; count = value p count_row; primary = value p primary_row == 1; linked = false; begun = false; ticks = 0 })
-element_by p None = any.Echo (record { delay = 0 })
+element_by p (Some kind.Pinger) = any.Pinger (record { name = p.name; count = value p count_row; sent = 0; got = 0; at = 0; stats = empty_stats p.stats; roundtrip = asked_place p stat.Roundtrip })
+element_by p (Some kind.Echo) = any.Echo (record { delay = value p delay_row; stats = empty_stats p.stats; received = asked_place p stat.Received })
+element_by p (Some kind.Ticker) = any.Ticker (record { name = p.name; count = value p count_row; primary = value p primary_row == 1; linked = false; begun = false; ticks = 0; stats = empty_stats p.stats; events = asked_place p stat.Events })
+element_by p None = any.Echo (record { delay = 0; stats = []; received = None })
 
 abbrev pub element_of : Part → Any
 element_of p = element_by p (kind_named p.kind)

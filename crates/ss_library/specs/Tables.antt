@@ -1,5 +1,5 @@
--- The kinds' names, and the tables of their parameters and ports.
-use Rattle.std.specs.Prelude.{ℕ, ◌+◌, ◌*◌, ◌-◌, ◌^◌, ◌==◌, ◌&&◌, List, [], ◌∷◌, length, nat_le, nat_lt, if◌then◌else◌, Option, Some, None, true, false, codes}
+-- The kinds' names, and the tables of their parameters, statistics and ports.
+use Rattle.std.specs.Prelude.{ℕ, ◌+◌, ◌*◌, ◌-◌, ◌^◌, ◌==◌, Bool, ◌&&◌, ◌||◌, List, [], ◌∷◌, length, nat_le, nat_lt, if◌then◌else◌, Option, Some, None, true, false, codes}
 use Rattle.std.specs.Str.{bytes_eq}
 use Rattle.ss_units.specs.Units.{period}
 use Rattle.ss_graph.specs.Options.{ranged, time_of}
@@ -10,6 +10,8 @@ use Rattle.ss_library.specs.declared.table.ParamName.TheVariants as param
 use Rattle.ss_library.specs.declared.table.Form.{Form}
 use Rattle.ss_library.specs.declared.table.Form.TheVariants as form
 use Rattle.ss_library.specs.declared.table.ParamRow.{ParamRow}
+use Rattle.ss_library.specs.declared.table.StatName.{StatName}
+use Rattle.ss_library.specs.declared.table.StatName.TheVariants as stat
 use Rattle.ss_library.specs.declared.table.PortName.{PortName}
 use Rattle.ss_library.specs.declared.table.PortName.TheVariants as port
 use Rattle.ss_library.specs.declared.table.PortRow.{PortRow}
@@ -78,6 +80,23 @@ value_or r (Some s) = value_of r.form s
 -- the value of a parameter among those that are given
 abbrev pub param_value : List (List ℕ × List ℕ) → ParamRow → Option ℕ
 param_value ps r = value_or r (given ps (param_text r.name))
+
+-- ---- statistics
+
+abbrev pub stat_text : StatName → List ℕ
+stat_text stat.Roundtrip = codes "roundtrip"
+stat_text stat.Received = codes "received"
+stat_text stat.Events = codes "events"
+
+abbrev pub stats_table : KindName → List StatName
+stats_table kind.Pinger = stat.Roundtrip ∷ []
+stats_table kind.Echo = stat.Received ∷ []
+stats_table kind.Ticker = stat.Events ∷ []
+
+-- whether one of these has the name
+abbrev pub is_among : List StatName → List ℕ → Bool
+is_among [] s = false
+is_among (n ∷ ns) s = bytes_eq (stat_text n) s || is_among ns s
 
 -- ---- ports
 

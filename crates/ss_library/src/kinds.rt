@@ -1,14 +1,22 @@
 //! The core kinds: a pinger, an echo, and an element of one of the kinds.
 
 ghost use Rattle.std.specs.Prelude.{◌≡◌, ◌<◌, ◌^◌, ◌∷◌, [], ◌++◌, OnOk, IfOk};
-ghost use Rattle.ss_library.specs.Kinds.{pong_text, sends, thrown, pinger_handled, echo_handled};
+ghost use Rattle.ss_stats.specs.Set.{place_of};
+ghost use Rattle.ss_library.specs.declared.table.StatName.TheVariants.{Roundtrip, Received};
+ghost use Rattle.ss_library.specs.Tables.{stat_text};
+ghost use Rattle.ss_element.specs.Gives.{Tells};
+ghost use Rattle.ss_library.specs.Saved.{pinger_form, echo_form};
+ghost use Rattle.ss_library.specs.Kinds.{pong_text, sends, thrown, pinger_handled, echo_handled, load_fits as is_core_number};
 
+use crate::stats::tally;
 use crate::ticker::Ticker;
 use itoa::Buffer;
-use ss_element::{Acts, Element};
+use ss_element::{Acts, Element, Flow, Payload, RestoreFault, restore_stats, save_stats};
 use ss_model::{Action, Cause};
 use ss_safe::Local;
+use ss_stats::StatSet;
 use ss_units::Text;
+use ss_wire::{Reader, Writer};
 use std::alloc::{AllocError, Global};
 
 /// What an event carries.
@@ -31,6 +39,10 @@ pub struct Pinger {
     pub got: u32,
     /// When the last was sent, in picoseconds.
     pub at: u64,
+    /// The statistics that its graph asked for.
+    pub stats: StatSet,
+    /// The place of `roundtrip` among them, if it is there.
+    pub roundtrip: Option<usize>,
 }
 
 /// Sends back what comes.
@@ -38,6 +50,10 @@ pub struct Pinger {
 pub struct Echo {
     /// How long it waits before it does, in picoseconds.
     pub delay: u64,
+    /// The statistics that its graph asked for.
+    pub stats: StatSet,
+    /// The place of `received` among them, if it is there.
+    pub received: Option<usize>,
 }
 
 /// An element of one of the kinds.
@@ -92,6 +108,7 @@ impl Pinger {
         cause: &Cause<Load>,
         acts: &mut Acts<Load>,
     ) -> Result<(), AllocError>
+        requires { self.old.roundtrip ≡ place_of self.old.stats (stat_text Roundtrip) }
         ensures state { OnOk result (self.new ≡ (pinger_handled self.old now cause.now).state) }
         ensures actions { OnOk result (acts.new ≡ acts.old ++ (pinger_handled self.old now cause.now).actions) }
     {
@@ -106,6 +123,8 @@ impl Pinger {
                 let Load::Core { n } = load;
                 let text = self.pong_text(acts.allocator(), *n, now)?;
                 acts.push(Action::Print { text })?;
+                let taken = now.saturating_sub(self.at);
+                tally(&mut self.stats, self.roundtrip, taken);
                 self.got = self.got.saturating_add(1).min(self.count);
                 if self.sent < self.count {
                     self.throw(self.sent + 1, now, acts)?;
@@ -115,20 +134,49 @@ impl Pinger {
             Cause::Own { .. } | Cause::Tick { .. } => Ok(()),
         }
     }
+
+    /// Writes what runs change: 4 bytes of what was sent last, 4 of how many came back, 8 of when it was sent, and
+    /// the statistics.
+    fn save(&self, out: &mut Writer) -> Result<(), AllocError>
+        ensures { OnOk result (out.new ≡ out.old ++ (pinger_form self.now).spell self.now) }
+    {
+        out.u32(self.sent)?;
+        out.u32(self.got)?;
+        out.u64(self.at)?;
+        save_stats(&self.stats, out)?;
+        Ok(())
+    }
+
+    fn restore(&mut self, bytes: &mut Reader<'_>) -> Result<(), RestoreFault>
+        ensures { Tells (λ u. self.new) result bytes.new ((pinger_form self.old).read bytes.old) }
+    {
+        self.sent = bytes.u32()?;
+        self.got = bytes.u32()?;
+        self.at = bytes.u64()?;
+        restore_stats(&mut self.stats, bytes)
+    }
 }
 
 impl Echo {
+    fn restore(&mut self, bytes: &mut Reader<'_>) -> Result<(), RestoreFault>
+        ensures { Tells (λ u. self.new) result bytes.new ((echo_form self.old).read bytes.old) }
+    {
+        restore_stats(&mut self.stats, bytes)
+    }
+
     pub(crate) fn handle(
         &mut self,
         cause: &Cause<Load>,
         acts: &mut Acts<Load>,
     ) -> Result<(), AllocError>
+        requires { self.old.received ≡ place_of self.old.stats (stat_text Received) }
         ensures state { OnOk result (self.new ≡ (echo_handled self.old cause.now).state) }
         ensures actions { OnOk result (acts.new ≡ acts.old ++ (echo_handled self.old cause.now).actions) }
     {
         match cause {
             Cause::Link { load, .. } => {
                 let Load::Core { n } = load;
+                tally(&mut self.stats, self.received, *n as u64);
                 if self.delay == 0 {
                     send(*n, acts)
                 } else {
@@ -148,17 +196,48 @@ impl Echo {
     }
 }
 
+impl Payload for Load {
+    ghost use Rattle.std.specs.Prelude.{None};
+    ghost use Rattle.ss_library.specs.Saved.{core_form};
+
+    ghost weighs = { λ y. None };
+
+    ghost spells = { λ y. core_form.spell y };
+
+    fn weight(&self) -> Option<(bool, u8, u32)> {
+        None
+    }
+
+    fn save(&self, out: &mut Writer) -> Result<(), AllocError> {
+        let Load::Core { n } = self;
+        out.u32(*n)
+    }
+}
+
+/// Whether a number is one of a core kind.
+fn load_fits(load: &Load) -> bool
+    ensures { result ≡ is_core_number load.now }
+{
+    let Load::Core { n } = load;
+    u64::from(*n) < 1 << 32
+}
+
 impl Element for Any {
     type Load = Load;
 
     ghost use Rattle.ss_library.specs.Kinds.{any_kind, any_safe};
-    ghost use Rattle.ss_library.specs.Laws.{any_world};
+    ghost use Rattle.ss_library.specs.Saved.{any_saving};
+    ghost use Rattle.ss_library.specs.Laws.{any_world, any_saved};
 
     ghost kind = { any_kind };
 
     ghost safe = { any_safe };
 
+    ghost saving = { any_saving };
+
     ghost laws = { any_world };
+
+    ghost saved = { any_saved };
 
     fn handle(
         &mut self,
@@ -170,6 +249,45 @@ impl Element for Any {
             Any::Pinger(pinger) => pinger.handle(now, cause, acts),
             Any::Echo(echo) => echo.handle(cause, acts),
             Any::Ticker(ticker) => ticker.handle(now, cause, acts),
+        }
+    }
+
+    fn save(&self, out: &mut Writer) -> Result<(), AllocError> {
+        match self {
+            Any::Pinger(pinger) => pinger.save(out),
+            Any::Echo(echo) => save_stats(&echo.stats, out),
+            Any::Ticker(ticker) => ticker.save(out),
+        }
+    }
+
+    #[tactic(auto, using(crate::proofs::Restored::as_any_gives))]
+    fn restore(&mut self, _alloc: Global, bytes: &mut Reader<'_>) -> Result<(), RestoreFault> {
+        match self {
+            Any::Pinger(pinger) => pinger.restore(bytes),
+            Any::Echo(echo) => echo.restore(bytes),
+            Any::Ticker(ticker) => ticker.restore(bytes),
+        }
+    }
+
+    fn read_load(&self, bytes: &mut Reader<'_>) -> Result<Load, RestoreFault> {
+        let n = bytes.u32()?;
+        Ok(Load::Core { n })
+    }
+
+    fn fits(&self, at: u64) -> bool {
+        match self {
+            Any::Pinger(pinger) => pinger.sent <= pinger.count
+                && pinger.got <= pinger.count
+                && pinger.at < at,
+            Any::Echo(_) => true,
+            Any::Ticker(ticker) => ticker.ticks <= ticker.count,
+        }
+    }
+
+    fn fits_load(&self, cause: &Cause<Load>, _at: u64) -> bool {
+        match cause {
+            Cause::Start | Cause::Tick { .. } => true,
+            Cause::Link { load, .. } | Cause::Own { load, .. } => load_fits(load),
         }
     }
 
@@ -195,13 +313,40 @@ impl Element for Any {
             Any::Ticker(ticker) => ticker.begun && clock == 0 && ticker.ticks < ticker.count,
         }
     }
+
+    fn channels(&self, _port: u16) -> u16 {
+        0
+    }
+
+    /// Nothing: no port has a channel.
+    fn flow(&self, _port: u16, _channel: u8) -> Flow
+        ensures { result ≡ record { credits = 0; queued = 0; capacity = 0 } }
+    {
+        Flow {
+            credits: 0,
+            queued: 0,
+            capacity: 0,
+        }
+    }
+
+    fn stats(&self) -> &StatSet {
+        match self {
+            Any::Pinger(pinger) => &pinger.stats,
+            Any::Echo(echo) => &echo.stats,
+            Any::Ticker(ticker) => &ticker.stats,
+        }
+    }
 }
 
 impl Local for Any {
     ghost use Rattle.ss_library.specs.Kinds.{any_allowed};
-    ghost use Rattle.ss_library.specs.Laws.{any_laws};
+    ghost use Rattle.ss_library.specs.Laws.{any_laws, any_saves};
 
     ghost allowed = { any_allowed };
 
     ghost local = { any_laws };
+
+    ghost saves = { any_saves };
+
+    ghost tied = { λ w now s. (λ safe. safe, λ safe. safe) };
 }

@@ -1,7 +1,7 @@
-//! The kinds' names, and the tables of their parameters and ports.
+//! The kinds' names, and the tables of their parameters, statistics and ports.
 
 ghost use Rattle.std.specs.Prelude.{◌≡◌, ◌<◌, ◌≤◌, ◌^◌, slice_get, length, IfSome};
-ghost use Rattle.ss_library.specs.Tables.{kind_named, param_text, port_text, count_row, delay_row, clock_row, primary_row, ports_table, port_by};
+ghost use Rattle.ss_library.specs.Tables.{kind_named, param_text, port_text, count_row, delay_row, clock_row, primary_row, stat_text, stats_table, ports_table, port_by};
 
 /// The name of a kind.
 #[derive(Clone, Copy, Debug, PartialEq, Eq)]
@@ -39,6 +39,14 @@ pub struct ParamRow {
     pub name: ParamName,
     pub form: Form,
     pub default: Option<u64>,
+}
+
+/// The name of a statistic.
+#[derive(Clone, Copy, Debug, PartialEq, Eq)]
+pub enum StatName {
+    Roundtrip,
+    Received,
+    Events,
 }
 
 /// The name of a port.
@@ -96,6 +104,12 @@ pub const PRIMARY: ParamRow = ParamRow {
     default: Some(1),
 };
 
+static PINGER_STATS: [StatName; 1] = [StatName::Roundtrip];
+
+static ECHO_STATS: [StatName; 1] = [StatName::Received];
+
+static TICKER_STATS: [StatName; 1] = [StatName::Events];
+
 static ONE_PORT: [PortRow; 1] = [PortRow {
     name: PortName::Port,
     required: true,
@@ -144,6 +158,27 @@ pub fn param_name(name: ParamName) -> &'static str
         ParamName::Delay => "delay",
         ParamName::Clock => "clock",
         ParamName::Primary => "primary",
+    }
+}
+
+pub fn stat_name(name: StatName) -> &'static str
+    ensures { result.now ≡ stat_text name }
+{
+    match name {
+        StatName::Roundtrip => "roundtrip",
+        StatName::Received => "received",
+        StatName::Events => "events",
+    }
+}
+
+/// The statistics of a kind.
+pub fn stats_of(kind: KindName) -> &'static [StatName]
+    ensures { result.now ≡ stats_table kind }
+{
+    match kind {
+        KindName::Pinger => &PINGER_STATS,
+        KindName::Echo => &ECHO_STATS,
+        KindName::Ticker => &TICKER_STATS,
     }
 }
 

@@ -1,14 +1,21 @@
 //! What no clause says: printed texts, and that graphs are made and refused where memory is there.
 
-ghost use Rattle.std.specs.Prelude.{◌≡◌, ◌≤◌, ◌∷◌, [], IfOk, length};
+ghost use Rattle.std.specs.Prelude.{◌≡◌, ◌≤◌, ◌∷◌, [], IfOk, OnOk, length};
 ghost use Rattle.std.specs.List.{All, IsDistinct};
 ghost use Rattle.ss_graph.specs.Links.{same_end};
 ghost use Rattle.ss_graph.specs.Fit.{IsFit, IsSoundLink, ends_of};
+ghost use Rattle.ss_stats.specs.Set.{place_of};
+ghost use Rattle.ss_library.specs.declared.table.StatName.TheVariants.{Roundtrip, Events};
+ghost use Rattle.ss_library.specs.Tables.{stat_text};
 
+use crate::stats::place_in;
+use crate::table::{StatName, stat_name};
 use crate::{Any, Echo, Load, MakeFault, Pinger, Ticker, make};
-use ss_element::{Action, Acts, Cause, Element, Model};
-use ss_graph::{Graph, Join, Options, Part, PortEnd, read};
+use ss_element::{Action, Acts, Cause, Element, Model, Payload, RestoreFault};
+use ss_graph::{Graph, Join, Options, Part, PortEnd, StatAsk, read};
+use ss_stats::{Accumulator, Stat, StatSet, csv_rows};
 use ss_units::{Items, Text};
+use ss_wire::{Reader, Writer};
 use std::alloc::{AllocError, Global};
 use std::test::*;
 
@@ -38,13 +45,17 @@ fn prints(action: Option<&Action<Load>>, line: &str) -> bool {
     }
 }
 
-fn pinger(alloc: Global, sent: u32, got: u32) -> Result<Pinger, AllocError> {
+fn pinger(alloc: Global, sent: u32, got: u32) -> Result<Pinger, AllocError>
+    ensures { IfOk result (λ p. p.roundtrip ≡ place_of p.stats (stat_text Roundtrip)) }
+{
     Ok(Pinger {
         name: Text::new(alloc, "ping")?,
         count: 3,
         sent,
         got,
         at: 0,
+        stats: StatSet::new(alloc),
+        roundtrip: None,
     })
 }
 
@@ -77,12 +88,60 @@ fn a_pinger_goes_on(rt: HostRuntime) -> Result<(), Fail> {
     Ok(())
 }
 
+/// A set of one accumulator.
+fn one_stat(alloc: Global, name: StatName) -> Result<StatSet, AllocError> {
+    let mut stats = StatSet::new(alloc);
+    stats.push(
+        stat_name(name).as_bytes(),
+        Stat::Accumulator(Accumulator::new()),
+    )?;
+    Ok(stats)
+}
+
+/// A number comes back to a pinger.
+#[tactic(auto, using(crate::specs::Kept::place_kept))]
+fn hand_back(pinger: &mut Pinger, n: u32, now: u64, acts: &mut Acts<Load>) -> Result<(), AllocError>
+    requires { pinger.old.roundtrip ≡ place_of pinger.old.stats (stat_text Roundtrip) }
+    ensures { OnOk result (pinger.new.roundtrip ≡ place_of pinger.new.stats (stat_text Roundtrip)) }
+{
+    let load = Load::Core { n };
+    pinger.handle(now, &Cause::Link { port: 0, load }, acts)
+}
+
+#[test]
+fn a_pinger_times_round_trips(rt: HostRuntime) -> Result<(), Fail> {
+    let mut pinger = pinger(rt.alloc(), 1, 0)?;
+    pinger.stats = one_stat(rt.alloc(), StatName::Roundtrip)?;
+    pinger.roundtrip = place_in(&pinger.stats, StatName::Roundtrip);
+    let mut acts = Acts::new(rt.alloc());
+    hand_back(&mut pinger, 1, 2000, &mut acts)?;
+    hand_back(&mut pinger, 2, 4000, &mut acts)?;
+    hand_back(&mut pinger, 3, 6000, &mut acts)?;
+    let mut out = Vec::new(rt.alloc());
+    csv_rows(b"ping", Any::Pinger(pinger).stats(), &mut out)?;
+    let want =
+        "ping,roundtrip,count,3\nping,roundtrip,sum,6000\nping,roundtrip,sumsq,12000000\nping,roundtrip,min,2000\nping,roundtrip,max,2000\n";
+    assert_eq!(rt; out.as_slice(), want.as_bytes());
+    Ok(())
+}
+
 #[test]
 fn an_echo_waits(rt: HostRuntime) -> Result<(), Fail> {
-    let mut echo = Any::Echo(Echo { delay: 5 });
+    let stats = one_stat(rt.alloc(), StatName::Received)?;
+    let received = place_in(&stats, StatName::Received);
+    let mut echo = Echo {
+        delay: 5,
+        stats,
+        received,
+    };
     let mut acts = Acts::new(rt.alloc());
     let load = Load::Core { n: 9 };
-    echo.handle(10, &Cause::Link { port: 0, load }, &mut acts)?;
+    echo.handle(&Cause::Link { port: 0, load }, &mut acts)?;
+    let mut out = Vec::new(rt.alloc());
+    csv_rows(b"e", Any::Echo(echo).stats(), &mut out)?;
+    let want =
+        "e,received,count,1\ne,received,sum,9\ne,received,sumsq,81\ne,received,min,9\ne,received,max,9\n";
+    assert_eq!(rt; out.as_slice(), want.as_bytes());
     assert!(rt;
         matches!(
             acts.get(0),
@@ -98,7 +157,11 @@ fn an_echo_waits(rt: HostRuntime) -> Result<(), Fail> {
 }
 
 /// A ticker that ticks twice.
-fn ticker(alloc: Global, ticks: u32) -> Result<Ticker, AllocError> {
+fn ticker(alloc: Global, ticks: u32) -> Result<Ticker, AllocError>
+    ensures { IfOk result (λ t. t.events ≡ place_of t.stats (stat_text Events)) }
+{
+    let stats = one_stat(alloc, StatName::Events)?;
+    let events = place_in(&stats, StatName::Events);
     Ok(Ticker {
         name: Text::new(alloc, "tick")?,
         count: 2,
@@ -106,6 +169,8 @@ fn ticker(alloc: Global, ticks: u32) -> Result<Ticker, AllocError> {
         linked: true,
         begun: ticks > 0,
         ticks,
+        stats,
+        events,
     })
 }
 
@@ -156,7 +221,72 @@ fn a_ticker_prints_what_comes(rt: HostRuntime) -> Result<(), Fail> {
         ticker.handle(5, &Cause::Link { port, load }, &mut acts)?;
         assert!(rt; prints(acts.get(0), line));
         assert_eq!(rt; acts.len(), 1);
+        let mut out = Vec::new(rt.alloc());
+        csv_rows(b"t", &ticker.stats, &mut out)?;
+        assert!(rt;
+            out.as_slice()
+                .starts_with(b"t,events,count,1\nt,events,sum,9\n")
+        );
     }
+    Ok(())
+}
+
+#[test]
+fn a_pinger_is_saved(rt: HostRuntime) -> Result<(), Fail> {
+    let mut saved = pinger(rt.alloc(), 2, 1)?;
+    saved.at = 258;
+    let mut out = Writer::new(rt.alloc());
+    Any::Pinger(saved).save(&mut out)?;
+    let bytes = out.finish();
+    let want = [0, 0, 0, 2, 0, 0, 0, 1, 0, 0, 0, 0, 0, 0, 1, 2];
+    assert_eq!(rt; bytes.as_slice(), want.as_slice());
+    let mut element = Any::Pinger(pinger(rt.alloc(), 0, 0)?);
+    let mut reader = Reader::new(bytes.as_slice(), 0);
+    assert_eq!(rt; element.restore(rt.alloc(), &mut reader), Ok(()));
+    assert!(rt; matches!(&element, Any::Pinger(p) if p.sent == 2 && p.got == 1 && p.at == 258));
+    assert!(rt; element.fits(259));
+    assert!(rt; !element.fits(258));
+    let mut short = Reader::new(&want[..15], 0);
+    assert_eq!(rt;
+        element.restore(rt.alloc(), &mut short),
+        Err(RestoreFault::Short { at: 8 })
+    );
+    Ok(())
+}
+
+#[test]
+fn a_ticker_is_restored(rt: HostRuntime) -> Result<(), Fail> {
+    let mut bytes = [0u8; 60];
+    bytes[3] = 1;
+    bytes[11] = 5;
+    let mut element = Any::Ticker(ticker(rt.alloc(), 0)?);
+    let mut reader = Reader::new(&bytes, 0);
+    assert_eq!(rt; element.restore(rt.alloc(), &mut reader), Ok(()));
+    assert!(rt; element.clock_on(0));
+    let mut out = Vec::new(rt.alloc());
+    csv_rows(b"t", element.stats(), &mut out)?;
+    assert!(rt;
+        out.as_slice()
+            .starts_with(b"t,events,count,5\nt,events,sum,0\n")
+    );
+    Ok(())
+}
+
+#[test]
+fn a_load_is_saved(rt: HostRuntime) -> Result<(), Fail> {
+    let load = Load::Core { n: 258 };
+    let mut out = Writer::new(rt.alloc());
+    load.save(&mut out)?;
+    let bytes = out.finish();
+    assert_eq!(rt; bytes.as_slice(), [0, 0, 1, 2].as_slice());
+    assert_eq!(rt; load.weight(), None);
+    let element = Any::Pinger(pinger(rt.alloc(), 0, 0)?);
+    let mut reader = Reader::new(bytes.as_slice(), 0);
+    let back = element.read_load(&mut reader);
+    assert!(rt; matches!(back, Ok(Load::Core { n: 258 })));
+    assert!(rt; element.fits_load(&Cause::Link { port: 0, load }, 1));
+    assert_eq!(rt; element.channels(0), 0);
+    assert_eq!(rt; element.flow(0, 0).credits, 0);
     Ok(())
 }
 
@@ -293,6 +423,100 @@ fn fault_of(answer: Result<Model<Any>, MakeFault>) -> (&'static str, Option<Text
         Err(MakeFault::PortUnlinked(place)) => ("PortUnlinked", Some(place)),
         Err(MakeFault::NoMemory) => ("NoMemory", None),
     }
+}
+
+/// A graph of one component that asks for these statistics, which are histograms where they have bins.
+fn asking(
+    alloc: Global,
+    kind: &str,
+    names: &[&str],
+    bounds: (u64, u64, u32),
+) -> Result<Graph, AllocError>
+    ensures { IfOk result (λ g. IsFit g) }
+{
+    let mut asks = Vec::new(alloc);
+    for name in names {
+        asks.push(StatAsk {
+            name: Text::new(alloc, name)?,
+            histogram: bounds != (0, 0, 0),
+            least: bounds.0,
+            width: bounds.1,
+            bins: bounds.2,
+        })?;
+    }
+    let mut part = part(alloc, kind, "count", "1")?;
+    part.stats = Items::from_vec(asks);
+    graph(alloc, part, Vec::new(alloc))
+}
+
+#[test]
+fn statistics_that_are_asked_for(rt: HostRuntime) -> Result<(), Fail> {
+    let none = (0, 0, 0);
+    let widest = (0, 1 << 47, 65536);
+    for (kind, names, bounds, place) in [
+        (
+            "core.pinger",
+            ["roundtrip"].as_slice(),
+            none,
+            "components[0].port",
+        ),
+        (
+            "core.pinger",
+            ["received"].as_slice(),
+            none,
+            "components[0].statistics[0]",
+        ),
+        (
+            "core.pinger",
+            ["roundtrip", "roundtrip"].as_slice(),
+            none,
+            "components[0].statistics[1]",
+        ),
+        (
+            "core.echo",
+            ["received", "events"].as_slice(),
+            none,
+            "components[0].statistics[1]",
+        ),
+        (
+            "core.echo",
+            ["received"].as_slice(),
+            widest,
+            "components[0].port",
+        ),
+        (
+            "core.echo",
+            ["received"].as_slice(),
+            (1, 1 << 47, 65536),
+            "components[0].statistics[0]",
+        ),
+        (
+            "core.echo",
+            ["received"].as_slice(),
+            (0, 1, 65537),
+            "components[0].statistics[0]",
+        ),
+        (
+            "core.echo",
+            ["received"].as_slice(),
+            (0, 0, 1),
+            "components[0].statistics[0]",
+        ),
+        (
+            "core.ticker",
+            ["events"].as_slice(),
+            (0, 1, 0),
+            "components[0].statistics[0]",
+        ),
+    ] {
+        let graph = asking(rt.alloc(), kind, names, bounds)?;
+        let (_, at) = fault_of(make(rt.alloc(), &graph));
+        assert!(rt; matches!(&at, Some(text) if text.as_str() == place));
+    }
+    let graph = asking(rt.alloc(), "core.ticker", &["events"], none)?;
+    let model = make(rt.alloc(), &graph).ok().ok_or("a model")?;
+    assert!(rt; matches!(model.elements.get(0), Some(element) if element.stats().len() == 1));
+    Ok(())
 }
 
 #[test]

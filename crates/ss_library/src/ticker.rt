@@ -1,14 +1,22 @@
 //! A core kind with a clock: a ticker.
 
 ghost use Rattle.std.specs.Prelude.{◌≡◌, ◌∷◌, [], ◌++◌, OnOk, IfOk};
+ghost use Rattle.ss_stats.specs.Set.{place_of};
+ghost use Rattle.ss_library.specs.declared.table.StatName.TheVariants.{Events};
+ghost use Rattle.ss_library.specs.Tables.{stat_text};
+ghost use Rattle.ss_element.specs.Gives.{Tells};
+ghost use Rattle.ss_library.specs.Saved.{ticker_form};
 ghost use Rattle.ss_library.specs.Kinds.{tick_text, event_text, port_label, ticked, ticker_handled};
 
 use crate::kinds::{Load, send};
+use crate::stats::tally;
 use crate::table::{KindName, port_name, ports_of};
 use itoa::Buffer;
-use ss_element::Acts;
+use ss_element::{Acts, RestoreFault, restore_stats, save_stats};
 use ss_model::{Action, Cause};
+use ss_stats::StatSet;
 use ss_units::Text;
+use ss_wire::{Reader, Writer};
 use std::alloc::{AllocError, Global};
 
 /// The number of a ticker's port `out`, its first.
@@ -29,6 +37,10 @@ pub struct Ticker {
     pub begun: bool,
     /// How many ticks there were.
     pub ticks: u32,
+    /// The statistics that its graph asked for.
+    pub stats: StatSet,
+    /// The place of `events` among them, if it is there.
+    pub events: Option<usize>,
 }
 
 /// The name of a ticker's port.
@@ -92,12 +104,30 @@ impl Ticker {
         Ok(())
     }
 
+    /// Writes what runs change: 4 bytes of the ticks, and the statistics.
+    pub(crate) fn save(&self, out: &mut Writer) -> Result<(), AllocError>
+        ensures { OnOk result (out.new ≡ out.old ++ (ticker_form self.now).spell self.now) }
+    {
+        out.u32(self.ticks)?;
+        save_stats(&self.stats, out)
+    }
+
+    /// Takes on what was written, as a ticker whose start event was handled.
+    pub(crate) fn restore(&mut self, bytes: &mut Reader<'_>) -> Result<(), RestoreFault>
+        ensures { Tells (λ u. self.new) result bytes.new ((ticker_form self.old).read bytes.old) }
+    {
+        self.begun = true;
+        self.ticks = bytes.u32()?;
+        restore_stats(&mut self.stats, bytes)
+    }
+
     pub(crate) fn handle(
         &mut self,
         now: u64,
         cause: &Cause<Load>,
         acts: &mut Acts<Load>,
     ) -> Result<(), AllocError>
+        requires { self.old.events ≡ place_of self.old.stats (stat_text Events) }
         ensures state { OnOk result (self.new ≡ (ticker_handled self.old now cause.now).state) }
         ensures actions { OnOk result (acts.new ≡ acts.old ++ (ticker_handled self.old now cause.now).actions) }
     {
@@ -112,7 +142,9 @@ impl Ticker {
             Cause::Link { port, load } => {
                 let Load::Core { n } = load;
                 let text = self.event_text(acts.allocator(), *n, *port, now)?;
-                acts.push(Action::Print { text })
+                acts.push(Action::Print { text })?;
+                tally(&mut self.stats, self.events, *n as u64);
+                Ok(())
             }
             Cause::Tick { .. } => {
                 self.ticks = self.ticks.saturating_add(1).min(self.count);

@@ -1,5 +1,5 @@
-use Rattle.std.proofs.Common.{◌≡◌, ◌+◌, ◌<◌, ◌≤◌, ◌++◌, length, drop, get_or, ap, ◌∙◌, arith, length-append}
-use Rattle.ss_library.specs.Make.{each_numbered, inner_of}
+use Rattle.std.proofs.Common.{ap, ◌∙◌, arith, length-append}
+use Rattle.ss_library.specs.Make.{inner_of}
 use Rattle.ss_library.proofs.Numbered.{numbered_read, numbered_all}
 use Rattle.ss_library.proofs.Lines.{inner_few, wires_are}
 use Rattle.ss_library.proofs.making.add_inner.Goals as goal

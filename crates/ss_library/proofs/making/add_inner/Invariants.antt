@@ -1,4 +1,4 @@
-use Rattle.std.proofs.Common.{◌≡◌, ◌≤◌, ◌++◌, [], drop, length}
+use Rattle.std.proofs.Common.{◌≡◌, ◌≤◌, ◌++◌, drop, length}
 use Rattle.ss_library.specs.Make.{each_numbered, inner_of}
 use Rattle.ss_library.proofs.making.add_inner.Given as goal
 

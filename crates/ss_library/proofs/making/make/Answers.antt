@@ -1,8 +1,7 @@
-use Rattle.std.proofs.Common.{◌≡◌, [], arith, ap, length, take, drop, ◌++◌, None, refl}
-use Rattle.ss_graph.specs.Checks.{first_fault}
+use Rattle.std.proofs.Common.{◌≡◌, arith, length, ◌++◌, refl}
 use Rattle.ss_graph.specs.Fit.{ends_of}
 use Rattle.ss_graph.proofs.Judging.{passes}
-use Rattle.ss_library.specs.Make.{make_checks, components_checks, links_checks, all_ports_checks, joined_from}
+use Rattle.ss_library.specs.Make.{make_checks, components_checks, links_checks, all_ports_checks}
 use Rattle.ss_library.proofs.Lines.{lines_count}
 use Rattle.ss_library.proofs.Joined.{put_back}
 use Rattle.ss_library.proofs.Opening.{model_safe}

@@ -1,5 +1,5 @@
 use Rattle.std.proofs.Common.{◌≡◌, drop}
-use Rattle.ss_library.specs.Tables.{port_from, port_by, ports_table}
+use Rattle.ss_library.specs.Tables.{port_from, port_by}
 use Rattle.ss_library.proofs.table.port_of.Given as goal
 
 abbrev pub invariant-loop-number : goal.invariant-loop-number

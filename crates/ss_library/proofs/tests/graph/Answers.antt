@@ -1,4 +1,4 @@
-use Rattle.std.proofs.Common.{◌≡◌, ◌≤◌, ◌^◌, ◌∷◌, [], List, ℕ, length, arith}
+use Rattle.std.proofs.Common.{◌≤◌, ◌^◌, ◌∷◌, [], List, ℕ, length, arith}
 use Rattle.std.specs.List.{All, IsDistinct}
 use Rattle.ss_graph.specs.declared.graph.Join.{Join}
 use Rattle.ss_graph.specs.declared.graph.Part.{Part}
