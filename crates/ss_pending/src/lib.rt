@@ -1,151 +1,87 @@
 //! The events that are to come, in order.
 #![tactic(auto)]
 
-ghost use Rattle.std.specs.Prelude.{◌≡◌, ◌≢◌, ◌<◌, [], ◌∷◌, ◌++◌, ◌==◌, OnOk, OnErr, List, ℕ, Bool, true, false, length, drop, Some, IfSome, IfNone, IfOk};
+ghost use Rattle.std.specs.Prelude.{◌≡◌, ◌+◌, ◌<◌, [], ◌∷◌, ◌++◌, ◌==◌, OnOk, OnErr, List, ℕ, false, length, IfSome, IfNone, IfOk, OnSome};
+ghost use Rattle.std.specs.BinaryHeap.{heap_items};
 ghost use Rattle.ss_model.specs.declared.Event.{Event};
 ghost use Rattle.ss_model.specs.Order.{insert, next_key, next_time, begins_before};
-ghost use Rattle.ss_pending.specs.Filed.{loads_of, events_of, unfiled, IsFiled};
+ghost use Rattle.ss_pending.specs.Filed.{in_order, AllBelow, Different, FirstOf, Takes};
 
-use ss_model::{Event, Key};
+mod filed;
+mod lane;
+
+use filed::Filed;
+use lane::{Lane, first_of, leads, take_top};
+use ss_model::{Event, Key, TICK};
 use std::alloc::{AllocError, Global};
-use std::collections::{BTreeMap, VecDeque};
+use std::collections::BinaryHeap;
 use std::marker::Model;
-
-// The loads of the events of one key, in order. Most keys have one event, which needs no memory of its own.
-#[derive(Drop)]
-enum Row<L> {
-    One(Option<L>),
-    Many(VecDeque<Option<L>>),
-}
 
 /// The events that are to come, in the order of their keys, and for one key in the order in which they were put in.
 #[derive(Drop)]
 pub struct Pending<L> {
-    rows: BTreeMap<Key, Row<L>>,
+    ticks: Lane<L>,
+    others: Lane<L>,
+    // The number of the next event that is put in.
+    next: u64,
     alloc: Global,
 }
 
 impl<L> Model for Pending<L> {
-    ghost use Rattle.std.specs.Prelude.{List};
+    ghost use Rattle.std.specs.Prelude.{List, ◌++◌};
     ghost use Rattle.ss_model.specs.declared.Event.{Event};
-    ghost use Rattle.ss_pending.specs.Filed.{unfiled, IsFiled};
+    ghost use Rattle.ss_pending.specs.Filed.{in_order, AllBelow, Different};
 
     ghost Value = { List (Event L) };
 
-    ghost view = { λ p. unfiled p.rows.entries };
+    ghost view = { λ p. in_order (p.ticks ++ p.others) };
 
-    ghost invariant = { λ p. IsFiled p.rows.entries };
+    ghost invariant = { λ p. Different (p.ticks ++ p.others) × AllBelow p.next (p.ticks ++ p.others) };
 }
 
-// Adds a load behind those of a row.
-fn add<L: Copy + Drop>(alloc: Global, row: &mut Row<L>, load: Option<L>) -> Result<(), AllocError>
-    ensures ok { OnOk result (loads_of row.new ≡ loads_of row.old ++ load ∷ []) }
-    ensures err { OnErr result (loads_of row.new ≡ loads_of row.old) }
+fn first_key<L>(ticks: &Lane<L>, others: &Lane<L>) -> Option<Key>
+    requires { Different (ticks.now ++ others.now) }
+    ensures { result ≡ next_key (in_order (ticks.now ++ others.now)) }
 {
-    match row {
-        Row::One(first) => {
-            let mut loads = VecDeque::new(alloc);
-            loads.push_back(*first)?;
-            loads.push_back(load)?;
-            *row = Row::Many(loads);
-        }
-        Row::Many(loads) => loads.push_back(load)?,
-    }
-    Ok(())
-}
-
-// Puts an event behind those with its key.
-fn put<L: Copy + Drop>(
-    alloc: Global,
-    rows: &mut BTreeMap<Key, Row<L>>,
-    event: Event<L>,
-) -> Result<(), AllocError>
-    requires { IsFiled rows.old.entries }
-    ensures ok { OnOk result (unfiled rows.new.entries ≡ insert event (unfiled rows.old.entries)) }
-    ensures err { OnErr result (unfiled rows.new.entries ≡ unfiled rows.old.entries) }
-    ensures filed { IsFiled rows.new.entries }
-{
-    match rows.get_mut(&event.key) {
-        Some(row) => {
-            add(alloc, row, event.load)?;
-            Ok(())
-        }
-        None => {
-            rows.insert(event.key, Row::One(event.load))?;
-            Ok(())
-        }
-    }
-}
-
-fn first_key<L>(rows: &BTreeMap<Key, Row<L>>) -> Option<Key>
-    requires { IsFiled rows.now.entries }
-    ensures { result ≡ next_key (unfiled rows.now.entries) }
-{
-    match rows.first_key_value() {
-        Some((key, _)) => Some(*key),
+    match first_of(ticks.first(), others.first()) {
+        Some(first) => Some(first.event.key),
         None => None,
     }
 }
 
-// Takes the first load of a row that has one, and tells whether none is left.
-// Of a row that held one alone, that one stays in its place.
-fn take_load<L: Copy + Drop>(row: &mut Row<L>) -> (Option<L>, bool)
-    requires { loads_of row.old ≢ [] }
-    ensures last { result.1 ≡ true → loads_of row.old ≡ result.0 ∷ [] }
-    ensures more { result.1 ≡ false → (loads_of row.old ≡ result.0 ∷ loads_of row.new) × (loads_of row.new ≢ []) }
-{
-    match row {
-        Row::One(load) => (*load, true),
-        Row::Many(loads) => {
-            let Some(load) = loads.pop_front() else {
-                unreachable!()
-            };
-            (load, loads.is_empty())
-        }
-    }
-}
-
-// Removes the first row, if there is one.
-fn remove_first<L: Drop>(rows: &mut BTreeMap<Key, Row<L>>)
-    ensures { rows.new.entries ≡ drop 1 rows.old.entries }
-{
-    rows.pop_first();
-}
-
-// Takes the first event, whose key is this. A key whose events are all taken goes.
-fn take<L: Copy + Drop>(rows: &mut BTreeMap<Key, Row<L>>, key: Key) -> Event<L>
-    requires filed { IsFiled rows.old.entries }
-    requires first { next_key (unfiled rows.old.entries) ≡ Some key }
-    ensures taken { unfiled rows.old.entries ≡ result ∷ unfiled rows.new.entries }
-    ensures filed { IsFiled rows.new.entries }
-{
-    let Some(row) = rows.get_mut(&key) else {
-        unreachable!()
-    };
-    let (load, is_last) = take_load(row);
-    if is_last {
-        remove_first(rows);
-    }
-    Event { key, load }
-}
-
-// Adds the events of a row to a list.
-fn list_row<L: Copy + Drop>(
-    list: &mut Vec<Event<L>>,
-    key: Key,
-    row: &Row<L>,
+// Puts in an event whose number is above all others.
+fn put<L: Drop>(
+    ticks: &mut Lane<L>,
+    others: &mut Lane<L>,
+    filed: Filed<L>,
 ) -> Result<(), AllocError>
-    ensures { OnOk result (list.new.items ≡ list.old.items ++ events_of key (loads_of row.now)) }
+    requires different { Different (ticks.old ++ others.old) }
+    requires below { AllBelow filed.number (ticks.old ++ others.old) }
+    ensures ok { OnOk result (in_order (ticks.new ++ others.new) ≡ insert filed.event (in_order (ticks.old ++ others.old))) }
+    ensures different { OnOk result (Different (ticks.new ++ others.new)) }
+    ensures below { OnOk result (AllBelow (filed.number + 1) (ticks.new ++ others.new)) }
+    ensures err { OnErr result ((ticks.new ≡ ticks.old) × (others.new ≡ others.old)) }
 {
-    match row {
-        Row::One(load) => list.push(Event { key, load: *load })?,
-        Row::Many(loads) => {
-            for load in loads {
-                list.push(Event { key, load: *load })?;
-            }
-        }
+    if filed.event.key.class == TICK {
+        ticks.put(filed)
+    } else {
+        others.put(filed)
     }
-    Ok(())
+}
+
+// Takes the first event.
+fn take<L>(ticks: &mut Lane<L>, others: &mut Lane<L>) -> Option<Filed<L>>
+    requires { Different (ticks.old ++ others.old) }
+    ensures some { IfSome result (λ f. in_order (ticks.old ++ others.old) ≡ f.event ∷ in_order (ticks.new ++ others.new)) }
+    ensures none { IfNone result (in_order (ticks.old ++ others.old) ≡ []) }
+    ensures different { Different (ticks.new ++ others.new) }
+    ensures below { (n : ℕ) → AllBelow n (ticks.old ++ others.old) → AllBelow n (ticks.new ++ others.new) }
+{
+    if leads(ticks.first(), others.first()) {
+        ticks.take()
+    } else {
+        others.take()
+    }
 }
 
 impl<L> Pending<L> {
@@ -154,7 +90,9 @@ impl<L> Pending<L> {
         ensures { result ≡ [] }
     {
         Pending {
-            rows: BTreeMap::new(alloc),
+            ticks: Lane::new(alloc),
+            others: Lane::new(alloc),
+            next: 0,
             alloc,
         }
     }
@@ -163,14 +101,14 @@ impl<L> Pending<L> {
     pub fn is_empty(&self) -> bool
         ensures { result ≡ (length self.now == 0) }
     {
-        first_key(&self.rows).is_none()
+        first_key(&self.ticks, &self.others).is_none()
     }
 
     /// The time of the first event, in picoseconds. It takes no memory.
     pub fn next_time(&self) -> Option<u64>
         ensures { result ≡ next_time self.now }
     {
-        match first_key(&self.rows) {
+        match first_key(&self.ticks, &self.others) {
             Some(key) => Some(key.time),
             None => None,
         }
@@ -183,7 +121,13 @@ impl<L> Pending<L> {
         ensures ok { OnOk result (self.new ≡ insert event self.old) }
         ensures err { OnErr result (self.new ≡ self.old) }
     {
-        put(self.alloc, &mut self.rows, event)
+        let number = self.next;
+        let Some(next) = number.checked_add(1) else {
+            return Err(AllocError);
+        };
+        put(&mut self.ticks, &mut self.others, Filed { event, number })?;
+        self.next = next;
+        Ok(())
     }
 
     /// Takes the first event, if it comes before a time in picoseconds. It takes no memory.
@@ -193,15 +137,12 @@ impl<L> Pending<L> {
         ensures some { IfSome result (λ e. (self.old ≡ e ∷ self.new) × (e.key.time < time)) }
         ensures none { IfNone result ((begins_before time self.old ≡ false) × (self.new ≡ self.old)) }
     {
-        match first_key(&self.rows) {
-            Some(key) => {
-                if key.time < time {
-                    Some(take(&mut self.rows, key))
-                } else {
-                    None
-                }
-            }
-            None => None,
+        match first_key(&self.ticks, &self.others) {
+            Some(key) if key.time < time => match take(&mut self.ticks, &mut self.others) {
+                Some(first) => Some(first.event),
+                None => None,
+            },
+            _ => None,
         }
     }
 
@@ -211,9 +152,13 @@ impl<L> Pending<L> {
         L: Copy + Drop,
         ensures { IfOk result (λ v. v.items ≡ self.now) }
     {
-        let mut list = Vec::new(self.alloc);
-        for (key, row) in &self.rows {
-            list_row(&mut list, *key, row)?;
+        let mut copy = Vec::new(self.alloc);
+        self.ticks.copy_to(&mut copy)?;
+        self.others.copy_to(&mut copy)?;
+        let mut heap = BinaryHeap::from(copy);
+        let mut list = Vec::with_capacity(self.alloc, heap.len())?;
+        while let Some(first) = take_top(&mut heap) {
+            list.push(first.event)?;
         }
         Ok(list)
     }

@@ -1,40 +1,24 @@
-use Rattle.std.proofs.Common.{sym}
-use Rattle.ss_pending.proofs.Filing.{at_first, none_found, has_load, took_last, took_one}
+use Rattle.std.proofs.Common.{refl}
+use Rattle.std.proofs.lemmas.Option.{IfSome_then}
+use Rattle.ss_pending.specs.Filed.{AllBelow, Different}
+use Rattle.ss_pending.proofs.Sorting.{taken, taken_different, taken_below}
+use Rattle.ss_pending.proofs.Lanes.{lane_take_left, lane_take_right, kept, none_left, none_right}
 use Rattle.ss_pending.proofs.take.Goals as goal
-use Rattle.ss_pending.proofs.take.Goals.{then-is_last, else-is_last}
 
-pub unreachable-requires : goal.unreachable-requires
-unreachable-requires g c =
-    let rows = c.args.rows.now.entries in
-    let k = c.args.key in
-    none_found k rows (at_first k rows c.requires.first c.requires.filed) (sym c.in_default.ensures.value)
+pub returns-then-leads-clause-some : goal.returns-then-leads-clause-some
+returns-then-leads-clause-some g c = IfSome_then c.take.result (lane_take_left c.take.result _ _ _ _ _ c.first.ensures c.first-2.ensures _ c.leads.ensures c.if-leads.true _ refl c.take.ensures.some) (λ x t. taken x _ _ t c.requires)
 
-pub take_load-load-requires : goal.take_load-load-requires
-take_load-load-requires g c =
-    let rows = c.args.rows.now.entries in
-    let k = c.args.key in
-    has_load k rows (at_first k rows c.requires.first c.requires.filed) c.in-Some.row.now (sym c.in-Some.ensures.value)
+pub returns-then-leads-clause-different : goal.returns-then-leads-clause-different
+returns-then-leads-clause-different g c = kept Different (λ x old new t d. taken_different x old new t d) c.take.result _ _ (lane_take_left c.take.result _ _ _ _ _ c.first.ensures c.first-2.ensures _ c.leads.ensures c.if-leads.true _ refl c.take.ensures.some) (none_left c.take.result _ _ _ c.take.ensures.none) c.requires
 
-pub returns-clause-taken : goal.returns-clause-taken
-returns-clause-taken g c =
-    let rows = c.args.rows.now.entries in
-    let k = c.args.key in
-    let row = c.take_load-load.new.row in
-    let x = c.take_load-load.result.0 in
-    let a = at_first k rows c.requires.first c.requires.filed in
-    elim c.if-is_last.branch [
-      | then-is_last w ↦ rw w.rows-is (took_last k rows (c.get_mut.follows.lender row).entries w.remove_first.new.rows.entries a c.in-Some.row.now row x (sym c.in-Some.ensures.value) (c.take_load-load.ensures.last w.if-is_last.true) (c.get_mut.follows.holds row).0 w.remove_first.ensures).0
-      | else-is_last w ↦ rw w.rows-is (took_one k rows (c.get_mut.follows.lender row).entries a c.in-Some.row.now row x (sym c.in-Some.ensures.value) (c.take_load-load.ensures.more w.if-is_last.false) (c.get_mut.follows.holds row).0).0
-    ]
+pub returns-then-leads-clause-below : goal.returns-then-leads-clause-below
+returns-then-leads-clause-below g c n b = kept (AllBelow n) (λ x old new t d. taken_below n x old new t d) c.take.result _ _ (lane_take_left c.take.result _ _ _ _ _ c.first.ensures c.first-2.ensures _ c.leads.ensures c.if-leads.true _ refl c.take.ensures.some) (none_left c.take.result _ _ _ c.take.ensures.none) b
 
-pub returns-clause-filed : goal.returns-clause-filed
-returns-clause-filed g c =
-    let rows = c.args.rows.now.entries in
-    let k = c.args.key in
-    let row = c.take_load-load.new.row in
-    let x = c.take_load-load.result.0 in
-    let a = at_first k rows c.requires.first c.requires.filed in
-    elim c.if-is_last.branch [
-      | then-is_last w ↦ rw w.rows-is (took_last k rows (c.get_mut.follows.lender row).entries w.remove_first.new.rows.entries a c.in-Some.row.now row x (sym c.in-Some.ensures.value) (c.take_load-load.ensures.last w.if-is_last.true) (c.get_mut.follows.holds row).0 w.remove_first.ensures).1
-      | else-is_last w ↦ rw w.rows-is (took_one k rows (c.get_mut.follows.lender row).entries a c.in-Some.row.now row x (sym c.in-Some.ensures.value) (c.take_load-load.ensures.more w.if-is_last.false) (c.get_mut.follows.holds row).0).1
-    ]
+pub returns-else-leads-clause-some : goal.returns-else-leads-clause-some
+returns-else-leads-clause-some g c = IfSome_then c.take-else-leads.result (lane_take_right c.take-else-leads.result _ _ _ _ _ c.first.ensures c.first-2.ensures _ c.leads.ensures c.if-leads.false _ refl c.take-else-leads.ensures.some) (λ x t. taken x _ _ t c.requires)
+
+pub returns-else-leads-clause-different : goal.returns-else-leads-clause-different
+returns-else-leads-clause-different g c = kept Different (λ x old new t d. taken_different x old new t d) c.take-else-leads.result _ _ (lane_take_right c.take-else-leads.result _ _ _ _ _ c.first.ensures c.first-2.ensures _ c.leads.ensures c.if-leads.false _ refl c.take-else-leads.ensures.some) (none_right c.take-else-leads.result _ _ _ c.take-else-leads.ensures.none) c.requires
+
+pub returns-else-leads-clause-below : goal.returns-else-leads-clause-below
+returns-else-leads-clause-below g c n b = kept (AllBelow n) (λ x old new t d. taken_below n x old new t d) c.take-else-leads.result _ _ (lane_take_right c.take-else-leads.result _ _ _ _ _ c.first.ensures c.first-2.ensures _ c.leads.ensures c.if-leads.false _ refl c.take-else-leads.ensures.some) (none_right c.take-else-leads.result _ _ _ c.take-else-leads.ensures.none) b

@@ -1,7 +1,10 @@
 use Rattle.std.proofs.Common.{◌≡◌, ◌++◌}
-use Rattle.ss_pending.specs.Filed.{unfiled}
+use Rattle.std.specs.BinaryHeap.{IsHeap, heap_items, heap_len}
+use Rattle.ss_pending.specs.Filed.{in_order, latest_first, Different}
 use Rattle.ss_pending.proofs.Pending.list.Given as goal
 
--- what is listed, and what is left, is all
-abbrev pub invariant-loop-key : goal.invariant-loop-key
-invariant-loop-key g l = l.list.items ++ unfiled l.key-iterator ≡ l.self
+abbrev pub invariant-loop-first : goal.invariant-loop-first
+invariant-loop-first g l = IsHeap latest_first (heap_items l.heap) × Different (heap_items l.heap) × (l.list.items ++ in_order (heap_items l.heap) ≡ l.fn.self)
+
+abbrev pub decreases-loop-first : goal.decreases-loop-first
+decreases-loop-first g l = heap_len l.heap
