@@ -1,0 +1,12 @@
+pub mod Tables
+pub mod Placing
+pub mod Leasts
+pub mod Naming
+pub mod Entries
+pub mod Linking
+pub mod Gathering
+pub mod Sorting
+pub mod Numbering
+pub mod Crossing
+pub mod Counting
+pub mod Best
