@@ -1,37 +1,56 @@
 -- An answer is given, unless something failed in the call or memory was wanting.
-use Rattle.std.proofs.Common.{◌≡◌, ℕ, List, Option, Some, None, Ok, Err, Result, Bool, true, false, length, nat_lt, refl, ap, sym, ◌∙◌, inl, inr, ◌⊎◌, subst}
+use Rattle.std.proofs.Common.{◌≡◌, ℕ, List, Option, Some, None, Ok, Err, Result, Bool, true, false, length, nat_lt, ap, sym, ◌∙◌, inl, inr, subst}
 use Rattle.std.specs.FinMap.{get}
 use Rattle.ss_edge.specs.Edge.{Contents}
-use Rattle.ss_top.specs.Words.{Plan, plan}
+use Rattle.ss_cmd.specs.declared.Plan.{Plan}
+use Rattle.ss_cmd.specs.declared.Plan.TheVariants as plan
+use Rattle.ss_cmd.specs.declared.Usage.{Usage}
+use Rattle.ss_cmd.specs.Grammar.{plan_by}
+use Rattle.ss_graph.specs.declared.graph.Graph.{Graph}
+use Rattle.ss_graph.specs.Judge.{graph_of}
 use Rattle.ss_top.specs.Judge.{Judged, not_text, at_fault, past_limit, accepted, judge}
-use Rattle.ss_top.specs.Answer.{Answer, Answers, Asks, AnswersPlan, AnswersEntry, AnswersBytes, AnswersSized, AnswersJudged, whole, most_graph}
-use Rattle.ss_top.specs.Headline.{Seen, Stands, Given, Ends, Failing, Gave, IsComplete, AllComplete, OneAnswer}
-use Rattle.ss_top.specs.declared.words.Usage.{Usage}
+use Rattle.ss_top.specs.Answer.{Answer, Answers, AnswersPlan, AnswersEntry, AnswersSized, AnswersText, AnswersJudged, AnswersAccepted, graph_name, sheets, stats_text, whole, most_graph}
+use Rattle.ss_library.specs.declared.kinds.Any.{Any}
+use Rattle.ss_top.specs.Headline.{Seen, Stands, Given, Gave, IsComplete, AllComplete, OneAnswer}
 use Rattle.ss_top.specs.declared.Status.{Status}
 use Rattle.ss_top.specs.declared.Status.TheVariants as status
 use Rattle.ss_top.proofs.Judging.{runs_one}
 
-judged-one : (name bytes : List ℕ) (j : Judged) (a b : Answer) → AnswersJudged name bytes j a → AnswersJudged name bytes j b → a ≡ b
-judged-one name bytes not_text a b h k = h ∙ sym k
-judged-one name bytes (at_fault f place) a b h k = h ∙ sym k
-judged-one name bytes (past_limit k n) a b h l = h ∙ sym l
-judged-one name bytes accepted a b h k = h.2 ∙ ap whole (runs_one bytes h.0 k.0 h.1 k.1) ∙ sym k.2
+accepted-one : (p : Plan) (g : Graph) (a b : Answer) → AnswersAccepted p g a → AnswersAccepted p g b → a ≡ b
+accepted-one (plan.Run graph options) g a b h k =
+    let same = runs_one g options.stop_at h.0 k.0 h.1 k.1 h.2 k.2 in
+    h.3
+    ∙ ap (λ ts. whole ts (sheets options.stats (stats_text g h.1))) same.0
+    ∙ ap (λ (left : List Any). whole k.0 (sheets options.stats (stats_text g left))) same.1
+    ∙ sym k.3
+accepted-one (plan.Check graph) g a b h k = h ∙ sym k
+accepted-one (plan.Partition graph parts how) g a b h k = h ∙ sym k
 
-sized-one : (name bytes : List ℕ) (t : Bool) (a b : Answer) → AnswersSized name bytes t a → AnswersSized name bytes t b → a ≡ b
-sized-one name bytes true a b h k = h ∙ sym k
-sized-one name bytes false a b h k = judged-one name bytes (judge bytes) a b h k
+judged-one : (p : Plan) (g : Graph) (j : Judged) (a b : Answer) → AnswersJudged p g j a → AnswersJudged p g j b → a ≡ b
+judged-one p g not_text a b h k = h ∙ sym k
+judged-one p g (at_fault f place) a b h k = h ∙ sym k
+judged-one p g (past_limit l n) a b h k = h ∙ sym k
+judged-one p g accepted a b h k = accepted-one p g a b h k
 
-entry-one : (name : List ℕ) (o : Option (List ℕ)) (a b : Answer) → AnswersEntry name o a → AnswersEntry name o b → a ≡ b
-entry-one name None a b h k = absurd h
-entry-one name (Some bytes) a b h k = sized-one name bytes (nat_lt most_graph (length bytes)) a b h k
+text-one : (p : Plan) (bytes : List ℕ) (a b : Answer) → AnswersText p bytes a → AnswersText p bytes b → a ≡ b
+unfolding AnswersText
+text-one p bytes a b h k = judged-one p (graph_of bytes) (judge bytes) a b h k
+
+sized-one : (p : Plan) (bytes : List ℕ) (t : Bool) (a b : Answer) → AnswersSized p bytes t a → AnswersSized p bytes t b → a ≡ b
+sized-one p bytes true a b h k = h ∙ sym k
+sized-one p bytes false a b h k = text-one p bytes a b h k
+
+entry-one : (p : Plan) (o : Option (List ℕ)) (a b : Answer) → AnswersEntry p o a → AnswersEntry p o b → a ≡ b
+entry-one p None a b h k = absurd h
+entry-one p (Some bytes) a b h k = sized-one p bytes (nat_lt most_graph (length bytes)) a b h k
 
 plan-one : (r : Result Plan Usage) (held : Contents) (a b : Answer) → AnswersPlan r held a → AnswersPlan r held b → a ≡ b
 plan-one (Err u) held a b h k = h ∙ sym k
-plan-one (Ok p) held a b h k = entry-one p.graph (get held p.graph) a b h k
+plan-one (Ok p) held a b h k = entry-one p (get held (graph_name p)) a b h k
 
 pub one-answer : OneAnswer
 unfolding Answers
-one-answer w held a b h k = plan-one (plan w) held a b h k
+one-answer w held a b h k = plan-one (plan_by w) held a b h k
 
 given-complete : (w : List (List ℕ)) (old new : Seen) (s : Status) → Given (Answers w) old new s → IsComplete w old new s
 given-complete w old new s f = λ held a told ans.

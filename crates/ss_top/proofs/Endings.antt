@@ -1,29 +1,31 @@
 -- How a call ends, from how its parts end.
-use Rattle.std.proofs.Common.{◌≡◌, ℕ, ◌+◌, ◌<◌, ◌≤◌, List, [], ◌∷◌, ◌++◌, map, length, Option, Some, None, Ok, Err, Result, Bool, true, false, refl, ap, sym, ◌∙◌, subst, arith, inl, inr, ◌⊎◌, codes, nat_lt}
+use Rattle.std.proofs.Common.{◌≡◌, ℕ, ◌+◌, ◌<◌, ◌≤◌, List, [], ◌∷◌, ◌++◌, map, length, Option, Some, None, Ok, Err, Result, Bool, true, false, refl, ap, sym, ◌∙◌, subst, arith, inl, inr, ◌⊎◌, append_assoc, nat_lt}
 use Rattle.std.proofs.lemmas.List.{map-append}
 use Rattle.std.proofs.lemmas.Bool.Decides.{nat_tests}
 use Rattle.std.specs.Ordering.{nat_cmp, eq_by_cmp, is_eq}
 use Rattle.std.specs.Cmp.{tied_itself}
 use Rattle.std.specs.Cmp.Lexicographic.{slice_cmp, nat_list_cmp_total}
 use Rattle.std.specs.FinMap.{empty, get, insert, get-insert}
-use Rattle.std.specs.Prelude.{if◌then◌else◌}
 use Rattle.std.proofs.Common.{cond}
 use Rattle.ss_top.specs.Message.{message_text, fault_line, limit_line}
 use Rattle.ss_top.specs.declared.print.Message.TheVariants as message
-use Rattle.ss_edge.specs.Edge.{Contents, more, Kept, Rose, TookSome}
-use Rattle.ss_top.specs.Words.{Plan, plan, usage_text}
+use Rattle.ss_edge.specs.Edge.{Contents, more, Kept, Rose, TookSome, with_entry}
+use Rattle.ss_cmd.specs.declared.Plan.{Plan}
+use Rattle.ss_cmd.specs.declared.Usage.{Usage}
+use Rattle.ss_cmd.specs.declared.Usage.TheVariants as usage
+use Rattle.ss_cmd.specs.Grammar.{plan_by}
+use Rattle.ss_graph.specs.Judge.{graph_of}
 use Rattle.ss_graph.specs.declared.fault.LimitKind.TheVariants as limit
-use Rattle.ss_top.specs.Judge.{Judged, not_text, at_fault, past_limit, accepted, judge, RunsTo}
-use Rattle.ss_top.specs.Simulate.{judged_by, Says, status_of, line_of, TellsRefusal}
+use Rattle.ss_top.specs.Judge.{Judged, not_text, at_fault, past_limit, accepted, judge}
+use Rattle.ss_top.specs.Simulate.{judged_by, IsRefusal, status_of, line_of, TellsRefusal}
 use Rattle.ss_top.specs.declared.refusal.Refusal.{Refusal}
 use Rattle.ss_top.specs.declared.refusal.Refusal.TheVariants as refusal
-use Rattle.ss_top.specs.Answer.{Step, write, put, Answer, Answers, Asks, AnswersPlan, AnswersEntry, AnswersBytes, AnswersSized, AnswersJudged, line, whole, most_graph}
+use Rattle.ss_top.specs.Answer.{Step, write, put, Answer, Answers, Asks, AsksOf, AnswersPlan, AnswersEntry, AnswersBytes, AnswersSized, AnswersText, AnswersJudged, graph_name, usage_text, usage_line, usage_status, put_of, line, whole, most_graph}
 use Rattle.ss_top.specs.Answer as answer
 use Rattle.ss_top.specs.Reading.{Holds}
-use Rattle.ss_top.specs.Printing.{Told, more_all, StopsIn}
-use Rattle.ss_top.specs.Writing.{Writes, EndsText}
-use Rattle.ss_top.specs.Headline.{Outside, Seen, seen, Stands, after_step, after_steps, InPart, ErrTook, Blames, Given, Unread, Unwritten, Reached, Starved, EndsBy, Ends}
-use Rattle.ss_top.specs.declared.words.Usage.{Usage}
+use Rattle.ss_top.specs.Printing.{Told, more_all}
+use Rattle.ss_top.specs.Writing.{Writes, Puts, PutsAll, PutsPart, EndsText}
+use Rattle.ss_top.specs.Headline.{Outside, Seen, seen, Stands, after_step, after_steps, InPart, ErrTook, Blames, Given, Unwritten, Reached, EndsBy, Ends}
 use Rattle.ss_top.specs.declared.Status.{Status}
 use Rattle.ss_top.specs.declared.Status.TheVariants as status
 use Rattle.ss_top.proofs.Taking.{more-nothing, rose-first}
@@ -63,106 +65,176 @@ writes_done : (ts : List (List ℕ)) (held : Option Contents) (o : Option (List 
 writes_done [] held o = refl
 writes_done (t ∷ ts) held o = writes_done ts held (more t o)
 
--- ---- a run's texts
+steps-append : (xs ys : List Step) (o : Outside) → after_steps (xs ++ ys) o ≡ after_steps ys (after_steps xs o)
+steps-append [] ys o = refl
+steps-append (x ∷ xs) ys o = steps-append xs ys (after_step x o)
 
-module _ (name bytes : List ℕ) (out out' : Option (List ℕ)) (outs outs' : ℕ) (err err' : Option (List ℕ)) (errs errs' : ℕ) where
-  refused : (s : Status) (text : List ℕ) → AnswersJudged name bytes (judge bytes) (answer.refusal s text) → out' ≡ out → Told (line text) err err' errs errs'
-      → (told : Option Contents) (held : Contents) (reads puts : List ℕ → ℕ) → Stands told held → Given (λ h a. (h ≡ held) × AnswersJudged name bytes (judge bytes) a) (seen told reads puts out outs err errs) (seen told reads puts out' outs' err' errs') s
-  refused s text a same t = λ told held reads puts stands. record {
-    held = held;
-    stands = stands;
+-- ---- the answer to a text
+
+as_text : (p : Plan) (bytes : List ℕ) (a : Answer) → AnswersJudged p (graph_of bytes) (judge bytes) a → AnswersText p bytes a
+unfolding AnswersText
+as_text p bytes a h = h
+
+never : (r : Refusal) → judged_by r ≡ Some accepted → ⊥
+never refusal.NotText e = cc
+never (refusal.Graph f place) e = cc
+never refusal.SharedParams e = cc
+never (refusal.Limit k n) e = cc
+never refusal.NoMemory e = cc
+
+module _ (p : Plan) (bytes : List ℕ) (told : Option Contents) (reads puts : List ℕ → ℕ) (out out' : Option (List ℕ)) (outs outs' : ℕ) (err err' : Option (List ℕ)) (errs errs' : ℕ) where
+  abbrev at_first : Seen
+  at_first = seen told reads puts out outs err errs
+
+  abbrev at_last : Seen
+  at_last = seen told reads puts out' outs' err' errs'
+
+  refused : (s : Status) (text : List ℕ) → AnswersJudged p (graph_of bytes) (judge bytes) (answer.refusal s text) → out' ≡ out → Told (line text) err err' errs errs' → Given (λ held a. AnswersText p bytes a) at_first at_last s
+  refused s text a same t = record {
+    held = anything told;
+    stands = stands-anything told;
     answer = answer.refusal s text;
-    answered = (refl, a);
+    answered = as_text p bytes (answer.refusal s text) a;
     status = refl;
     done = ap (outside_of told) same;
     err = t;
   }
 
-  pub nothing_ran : out' ≡ out → Told (line (message_text message.NoMemory)) err err' errs errs' → EndsText name bytes out out' outs outs' err err' errs errs' status.NoMemory
-  nothing_ran same t = λ told held reads puts stands. record { so_far = inl (ap (outside_of told) same); err = t }
+  nothing_ran : out' ≡ out → Told (line (message_text message.NoMemory)) err err' errs errs' → EndsText p bytes at_first at_last status.NoMemory
+  nothing_ran same t = record { so_far = inl (ap (outside_of told) same); err = t }
 
-  judged : (a : Answer) (j : Judged) → judge bytes ≡ j → AnswersJudged name bytes j a → AnswersJudged name bytes (judge bytes) a
-  judged a j e k = subst (λ (x : Judged). AnswersJudged name bytes x a) (sym e) k
-
-  ended_by : (o : Option Judged) → (judge bytes ≡ accepted → ⊥) ⊎ (o ≡ None) → Says o (judge bytes) → out' ≡ out → Told (line_of name o) err err' errs errs' → EndsText name bytes out out' outs outs' err err' errs errs' (status_of o)
+  ended_by : (o : Option Judged) → (o ≡ Some accepted → ⊥) → IsRefusal p (graph_of bytes) (judge bytes) o → out' ≡ out → Told (line_of (graph_name p) o) err err' errs errs' → EndsText p bytes at_first at_last (status_of o)
   ended_by None n h same t = nothing_ran same t
-  ended_by (Some not_text) n h same t = refused status.Text (message_text message.NotText ++ name) (judged _ not_text h refl) same t
-  ended_by (Some (at_fault f place)) n h same t = refused status.Graph (fault_line f place) (judged _ (at_fault f place) h refl) same t
-  ended_by (Some (past_limit k m)) n h same t = refused status.Limit (limit_line k m) (judged _ (past_limit k m) h refl) same t
-  ended_by (Some accepted) (inl n) h same t = absurd (n h)
-  ended_by (Some accepted) (inr n) h same t = absurd (cc)
+  ended_by (Some not_text) n h same t = refused status.Text (message_text message.NotText ++ graph_name p) h same t
+  ended_by (Some (at_fault f place)) n h same t = refused status.Graph (fault_line f place) h same t
+  ended_by (Some (past_limit k m)) n h same t = refused status.Limit (limit_line k m) h same t
+  ended_by (Some accepted) n h same t = absurd (n refl)
 
-  no_other : (o : Option Judged) → (o ≡ Some accepted → ⊥) → Says o (judge bytes) → (judge bytes ≡ accepted → ⊥) ⊎ (o ≡ None)
-  no_other None n h = inr refl
-  no_other (Some j) n h = inl (λ e. n (ap Some (sym h ∙ e)))
+  pub refusal_ended : (r : Refusal) (s : Status) → IsRefusal p (graph_of bytes) (judge bytes) (judged_by r) → out' ≡ out → TellsRefusal (graph_name p) r err err' errs errs' s → EndsText p bytes at_first at_last s
+  refusal_ended r s h same t = subst (λ (x : Status). EndsText p bytes at_first at_last x) (sym t.status) (ended_by (judged_by r) (never r) h same t.told)
 
-  never : (r : Refusal) → judged_by r ≡ Some accepted → ⊥
-  never refusal.NotText e = cc
-  never (refusal.Graph f place) e = cc
-  never refusal.SharedParams e = cc
-  never (refusal.Limit k n) e = cc
-  never refusal.NoMemory e = cc
-
-  pub refusal_ended : (r : Refusal) (s : Status) → Says (judged_by r) (judge bytes) → out' ≡ out → TellsRefusal name r err err' errs errs' s → EndsText name bytes out out' outs outs' err err' errs errs' s
-  refusal_ended r s h same t = subst (λ (x : Status). EndsText name bytes out out' outs outs' err err' errs errs' x) (sym t.status) (ended_by (judged_by r) (no_other (judged_by r) (never r) h) h same t.told)
-
-  pub run_ended : (texts : List (List ℕ)) (s : Status) → judge bytes ≡ accepted → RunsTo bytes texts → Writes texts out out' outs outs' err err' errs errs' s → EndsText name bytes out out' outs outs' err err' errs errs' s
-  run_ended texts status.Whole j r w = λ told held reads puts stands. record {
-    held = held;
-    stands = stands;
-    answer = whole texts;
-    answered = (refl, subst (λ (x : Judged). AnswersJudged name bytes x (whole texts)) (sym j) (texts, r, refl));
-    status = refl;
-    done = ap (outside_of told) w.0 ∙ sym (writes_done texts told out);
-    err = inl (w.1 ∙ more-nothing err);
-  }
-  run_ended texts status.Usage j r w = absurd w
-  run_ended texts status.Text j r w = absurd w
-  run_ended texts status.Graph j r w = absurd w
-  run_ended texts status.Limit j r w = absurd w
-  run_ended texts status.ReadFault j r w = absurd w
-  run_ended texts status.WriteFault j r w = λ told held reads puts stands. record {
-    held = held;
-    stands = stands;
-    answer = whole texts;
-    answered = (refl, subst (λ (x : Judged). AnswersJudged name bytes x (whole texts)) (sym j) (texts, r, refl));
+  -- the writing of the texts stopped
+  pub texts_stopped : (texts : List (List ℕ)) (ps : List (List ℕ × List ℕ)) (s : Status) → (s ≡ status.Whole → ⊥) → AnswersJudged p (graph_of bytes) (judge bytes) (whole texts ps) → Writes texts out out' outs outs' err err' errs errs' s → EndsText p bytes at_first at_last s
+  texts_stopped texts ps status.Whole n a w = absurd (n refl)
+  texts_stopped texts ps status.Usage n a w = absurd w
+  texts_stopped texts ps status.Text n a w = absurd w
+  texts_stopped texts ps status.Graph n a w = absurd w
+  texts_stopped texts ps status.Limit n a w = absurd w
+  texts_stopped texts ps status.ReadFault n a w = absurd w
+  texts_stopped texts ps status.WriteFault n a w = record {
+    held = anything told;
+    stands = stands-anything told;
+    answer = whole texts ps;
+    answered = as_text p bytes (whole texts ps) a;
     whole = refl;
     front = map write w.0.front;
     step = write w.0.text;
-    rest = map write w.0.rest;
-    steps = ap (map write) w.0.whole ∙ map-append write w.0.front (w.0.text ∷ w.0.rest);
+    rest = map write w.0.rest ++ map put_of ps;
+    steps = ap (λ ts. map write ts ++ map put_of ps) w.0.whole ∙ ap (λ ts. ts ++ map put_of ps) (map-append write w.0.front (w.0.text ∷ w.0.rest)) ∙ append_assoc (map write w.0.front) (write w.0.text ∷ map write w.0.rest) (map put_of ps);
     part = subst (λ (x : Outside). InPart (write w.0.text) x (outside_of told out')) (sym (writes_done w.0.front told out)) (w.0.took, refl);
     blamed = (w.1, w.2);
   }
-  run_ended texts status.NoMemory j r w = nothing_ran w.0 w.1
+  texts_stopped texts ps status.NoMemory n a w = nothing_ran w.0 w.1
 
--- ---- what an end means for another answer
+  -- the texts were written, and nothing is put
+  written : (texts : List (List ℕ)) → AnswersJudged p (graph_of bytes) (judge bytes) (whole texts []) → (out' ≡ more_all texts out) × (err' ≡ err) → EndsText p bytes at_first at_last status.Whole
+  written texts a w = record {
+    held = anything told;
+    stands = stands-anything told;
+    answer = whole texts [];
+    answered = as_text p bytes (whole texts []) a;
+    status = refl;
+    done = ap (outside_of told) w.0 ∙ sym (steps-append (map write texts) [] (outside_of told out) ∙ writes_done texts told out);
+    err = inl (w.1 ∙ more-nothing err);
+  }
 
-module _ (answers answers' : Contents → Answer → Type 0) (asks asks' : List ℕ → Type 0) (old new new' : Seen)
-    (answered : (held : Contents) (a : Answer) → answers held a → answers' held a) (asked : (n : List ℕ) → asks n → asks' n)
-    (same : new'.outside ≡ new.outside) (outs : new.out_faults ≡ new'.out_faults) (errs : new.err_faults ≡ new'.err_faults) (err : new'.err ≡ new.err)
-    (reads : Kept new.read_faults new'.read_faults) (puts : Kept new.put_faults new'.put_faults) where
-  err_goes : (text : List ℕ) → ErrTook text old new → ErrTook text old new'
-  err_goes text (inl e) = inl (err ∙ e)
-  err_goes text (inr (r, t)) = inr (subst (λ n. Rose old.err_faults n) errs r, subst (λ (x : Option (List ℕ)). TookSome text old.err x) (sym err) t)
+  pub texts_ended : (texts : List (List ℕ)) (s : Status) → AnswersJudged p (graph_of bytes) (judge bytes) (whole texts []) → Writes texts out out' outs outs' err err' errs errs' s → EndsText p bytes at_first at_last s
+  texts_ended texts status.Whole a w = written texts a w
+  texts_ended texts status.Usage a w = absurd w
+  texts_ended texts status.Text a w = absurd w
+  texts_ended texts status.Graph a w = absurd w
+  texts_ended texts status.Limit a w = absurd w
+  texts_ended texts status.ReadFault a w = absurd w
+  texts_ended texts status.WriteFault a w = texts_stopped texts [] status.WriteFault (λ e. cc) a w
+  texts_ended texts status.NoMemory a w = nothing_ran w.0 w.1
 
-  given_goes : (s : Status) → Given answers old new s → Given answers' old new' s
-  given_goes s g = record { held = g.held; stands = g.stands; answer = g.answer; answered = answered g.held g.answer g.answered; status = g.status; done = same ∙ g.done; err = err_goes g.answer.err g.err }
+-- ---- puts behind texts
 
-  risen : (a b c : ℕ) → b ≤ c → Rose a b → Rose a c
-  risen a b c h r = grind arith
+puts_done : (ps : List (List ℕ × List ℕ)) (held held' : Option Contents) (err err' o : Option (List ℕ)) → PutsAll ps held held' err err' → after_steps (map put_of ps) (outside_of held o) ≡ outside_of held' o
+puts_done [] held held' err err' o h = ap (λ x. outside_of x o) (sym h.0)
+puts_done (q ∷ qs) held held' err err' o h = ap (λ l. after_steps (map put_of l) (outside_of (with_entry q.0 q.1 held) o)) h.0 ∙ ap (λ x. outside_of x o) (sym h.1)
 
-  blames_goes : (s : Step) → Blames s old new → Blames s old new'
-  blames_goes (write bytes) b = (subst (λ n. Rose old.out_faults n) outs b.0, err_goes _ b.1)
-  blames_goes (put name bytes) b = (risen _ _ _ (puts name) b.0, err_goes _ b.1)
+puts_quiet : (ps : List (List ℕ × List ℕ)) (held held' : Option Contents) (err err' : Option (List ℕ)) → PutsAll ps held held' err err' → err' ≡ err
+puts_quiet [] held held' err err' h = h.1
+puts_quiet (q ∷ qs) held held' err err' h = h.2
 
-  unread_goes : Unread asks old new → Unread asks' old new'
-  unread_goes u = record { name = u.name; asked = asked u.name u.asked; rose = risen _ _ _ (reads u.name) u.rose; untouched = same ∙ u.untouched; err = err_goes _ u.err }
+module _ (p : Plan) (bytes : List ℕ) (told told' : Option Contents) (reads reads' puts puts' : List ℕ → ℕ) (out out' : Option (List ℕ)) (outs outs' : ℕ) (err mid err' : Option (List ℕ)) (errs errs_mid errs' : ℕ)
+    (texts : List (List ℕ)) (written : out' ≡ more_all texts out) (quiet : mid ≡ err) (rising : errs ≤ errs_mid) (rising' : errs_mid ≤ errs') where
+  abbrev at_start : Seen
+  at_start = seen told reads puts out outs err errs
 
-  unwritten_goes : Unwritten answers old new → Unwritten answers' old new'
-  unwritten_goes u = record {
-    held = u.held;
-    stands = u.stands;
+  abbrev at_end : Seen
+  at_end = seen told' reads' puts' out' outs' err' errs'
+
+  told_since : (text : List ℕ) → Told (line text) mid err' errs_mid errs' → ErrTook (line text) at_start at_end
+  told_since text (inl e) = inl (e ∙ ap (more (line text)) quiet)
+  told_since text (inr (r, t)) = inr (rose-first errs errs_mid errs' errs' rising rising' (omega arith) r, subst (λ (x : Option (List ℕ)). TookSome (line text) x err') quiet t)
+
+  put_in_part : (ps : List (List ℕ × List ℕ)) → AnswersJudged p (graph_of bytes) (judge bytes) (whole texts ps) → PutsPart ps told told' puts puts' mid err' errs_mid errs' → EndsText p bytes at_start at_end status.WriteFault
+  put_in_part [] a h = absurd h
+  put_in_part (q ∷ qs) a h = record {
+    held = anything told;
+    stands = stands-anything told;
+    answer = whole texts (q ∷ qs);
+    answered = as_text p bytes (whole texts (q ∷ qs)) a;
+    whole = refl;
+    front = map write texts;
+    step = put q.0 q.1;
+    rest = map put_of qs;
+    steps = refl;
+    part = subst (λ (x : Outside). InPart (put q.0 q.1) x (outside_of told' out')) (sym (writes_done texts told out)) (h.1.partly, written);
+    blamed = (h.1.rose, told_since (message_text message.WriteFault ++ q.0) h.1.told);
+  }
+
+  pub texts_put : (ps : List (List ℕ × List ℕ)) (s : Status) → AnswersJudged p (graph_of bytes) (judge bytes) (whole texts ps) → Puts ps told told' puts puts' mid err' errs_mid errs' s → EndsText p bytes at_start at_end s
+  texts_put ps status.Whole a h = record {
+    held = anything told;
+    stands = stands-anything told;
+    answer = whole texts ps;
+    answered = as_text p bytes (whole texts ps) a;
+    status = refl;
+    done = ap (outside_of told') written ∙ sym (steps-append (map write texts) (map put_of ps) (outside_of told out) ∙ ap (after_steps (map put_of ps)) (writes_done texts told out) ∙ puts_done ps told told' mid err' (more_all texts out) h);
+    err = inl (puts_quiet ps told told' mid err' h ∙ quiet ∙ more-nothing err);
+  }
+  texts_put ps status.Usage a h = absurd h
+  texts_put ps status.Text a h = absurd h
+  texts_put ps status.Graph a h = absurd h
+  texts_put ps status.Limit a h = absurd h
+  texts_put ps status.ReadFault a h = absurd h
+  texts_put ps status.WriteFault a h = put_in_part ps a h
+  texts_put ps status.NoMemory a h = absurd h
+
+-- ---- what comes before an end
+
+module _ (answers answers' : Contents → Answer → Type 0) (asks asks' : List ℕ → Type 0) (old mid new : Seen) (held : Contents)
+    (stands : Stands old.outside.held held) (answered : (h : Contents) (a : Answer) → answers h a → answers' held a) (nothing : (n : List ℕ) → asks n → ⊥)
+    (same : mid.outside ≡ old.outside) (outs : mid.out_faults ≡ old.out_faults) (errs : mid.err_faults ≡ old.err_faults) (err : mid.err ≡ old.err)
+    (kept : Kept old.put_faults mid.put_faults) (kept' : Kept mid.put_faults new.put_faults) where
+  err_back : (text : List ℕ) → ErrTook text mid new → ErrTook text old new
+  err_back text (inl e) = inl (e ∙ ap (more text) err)
+  err_back text (inr (r, t)) = inr (subst (λ n. Rose n new.err_faults) errs r, subst (λ (x : Option (List ℕ)). TookSome text x new.err) err t)
+
+  given_back : (s : Status) → Given answers mid new s → Given answers' old new s
+  given_back s g = record { held = held; stands = stands; answer = g.answer; answered = answered g.held g.answer g.answered; status = g.status; done = g.done ∙ ap (after_steps g.answer.steps) same; err = err_back g.answer.err g.err }
+
+  blames_back : (s : Step) → Blames s mid new → Blames s old new
+  blames_back (write bytes) b = (subst (λ n. Rose n new.out_faults) outs b.0, err_back _ b.1)
+  blames_back (put name bytes) b = (rose-first _ _ _ _ (kept name) (kept' name) (omega arith) b.0, err_back _ b.1)
+
+  unwritten_back : Unwritten answers mid new → Unwritten answers' old new
+  unwritten_back u = record {
+    held = held;
+    stands = stands;
     answer = u.answer;
     answered = answered u.held u.answer u.answered;
     whole = u.whole;
@@ -170,68 +242,83 @@ module _ (answers answers' : Contents → Answer → Type 0) (asks asks' : List 
     step = u.step;
     rest = u.rest;
     steps = u.steps;
-    part = subst (λ (x : Outside). InPart u.step (after_steps u.front old.outside) x) (sym same) u.part;
-    blamed = blames_goes u.step u.blamed;
+    part = subst (λ (x : Outside). InPart u.step (after_steps u.front x) new.outside) same u.part;
+    blamed = blames_back u.step u.blamed;
   }
 
-  so_far_goes : (new.outside ≡ old.outside) ⊎ Reached answers old new → (new'.outside ≡ old.outside) ⊎ Reached answers' old new'
-  so_far_goes (inl e) = inl (same ∙ e)
-  so_far_goes (inr r) = inr (record { held = r.held; stands = r.stands; answer = r.answer; answered = answered r.held r.answer r.answered; front = r.front; rest = r.rest; steps = r.steps; done = same ∙ r.done })
+  so_far_back : (new.outside ≡ mid.outside) ⊎ Reached answers mid new → (new.outside ≡ old.outside) ⊎ Reached answers' old new
+  so_far_back (inl e) = inl (e ∙ same)
+  so_far_back (inr r) = inr (record { held = held; stands = stands; answer = r.answer; answered = answered r.held r.answer r.answered; front = r.front; rest = r.rest; steps = r.steps; done = r.done ∙ ap (after_steps r.front) same })
 
-  pub ends_goes : (s : Status) → EndsBy answers asks old new s → EndsBy answers' asks' old new' s
+  pub ends_back : (s : Status) → EndsBy answers asks mid new s → EndsBy answers' asks' old new s
+  ends_back status.Whole g = given_back status.Whole g
+  ends_back status.Usage g = given_back status.Usage g
+  ends_back status.Text g = given_back status.Text g
+  ends_back status.Graph g = given_back status.Graph g
+  ends_back status.Limit g = given_back status.Limit g
+  ends_back status.ReadFault u = absurd (nothing u.name u.asked)
+  ends_back status.WriteFault u = unwritten_back u
+  ends_back status.NoMemory u = record { so_far = so_far_back u.so_far; err = err_back _ u.err }
+
+-- ---- what an end means for another answer
+
+module _ (answers answers' : Contents → Answer → Type 0) (asks asks' : List ℕ → Type 0) (old new : Seen)
+    (answered : (held : Contents) (a : Answer) → answers held a → answers' held a) (asked : (n : List ℕ) → asks n → asks' n) where
+  given_goes : (s : Status) → Given answers old new s → Given answers' old new s
+  given_goes s g = record { held = g.held; stands = g.stands; answer = g.answer; answered = answered g.held g.answer g.answered; status = g.status; done = g.done; err = g.err }
+
+  so_far_goes : (new.outside ≡ old.outside) ⊎ Reached answers old new → (new.outside ≡ old.outside) ⊎ Reached answers' old new
+  so_far_goes (inl e) = inl e
+  so_far_goes (inr r) = inr (record { held = r.held; stands = r.stands; answer = r.answer; answered = answered r.held r.answer r.answered; front = r.front; rest = r.rest; steps = r.steps; done = r.done })
+
+  pub ends_goes : (s : Status) → EndsBy answers asks old new s → EndsBy answers' asks' old new s
   ends_goes status.Whole g = given_goes status.Whole g
   ends_goes status.Usage g = given_goes status.Usage g
   ends_goes status.Text g = given_goes status.Text g
   ends_goes status.Graph g = given_goes status.Graph g
   ends_goes status.Limit g = given_goes status.Limit g
-  ends_goes status.ReadFault u = unread_goes u
-  ends_goes status.WriteFault u = unwritten_goes u
-  ends_goes status.NoMemory u = record { so_far = so_far_goes u.so_far; err = err_goes _ u.err }
+  ends_goes status.ReadFault u = record { name = u.name; asked = asked u.name u.asked; rose = u.rose; untouched = u.untouched; err = u.err }
+  ends_goes status.WriteFault u = record { held = u.held; stands = u.stands; answer = u.answer; answered = answered u.held u.answer u.answered; whole = u.whole; front = u.front; step = u.step; rest = u.rest; steps = u.steps; part = u.part; blamed = u.blamed }
+  ends_goes status.NoMemory u = record { so_far = so_far_goes u.so_far; err = u.err }
 
 -- ---- an entry
 
-abbrev of_entry : List ℕ → Contents → Answer → Type 0
-of_entry name held a = AnswersEntry name (get held name) a
+abbrev of_entry : Plan → Contents → Answer → Type 0
+of_entry p held a = AnswersEntry p (get held (graph_name p)) a
 
 abbrev is_named : List ℕ → List ℕ → Type 0
 is_named name n = n ≡ name
 
-sized : (name bytes : List ℕ) (a : Answer) → length bytes ≤ most_graph → AnswersJudged name bytes (judge bytes) a → AnswersBytes name bytes a
-sized name bytes a h k = let small : nat_lt most_graph (length bytes) ≡ false = grind (arith, nat_tests) in subst (λ (b : Bool). AnswersSized name bytes b a) (sym small) k
+sized : (p : Plan) (bytes : List ℕ) (a : Answer) → length bytes ≤ most_graph → AnswersText p bytes a → AnswersBytes p bytes a
+sized p bytes a h k = let small : nat_lt most_graph (length bytes) ≡ false = grind (arith, nat_tests) in subst (λ (b : Bool). AnswersSized p bytes b a) (sym small) k
 
-entered : (name bytes : List ℕ) (held h : Contents) (a : Answer) → get held name ≡ Some bytes → h ≡ held → AnswersBytes name bytes a → of_entry name h a
-entered name bytes held h a g e k = subst (λ (x : Contents). of_entry name x a) (sym e) (subst (λ (o : Option (List ℕ)). AnswersEntry name o a) (sym g) k)
+entered : (p : Plan) (bytes : List ℕ) (held : Contents) (a : Answer) → get held (graph_name p) ≡ Some bytes → AnswersBytes p bytes a → of_entry p held a
+entered p bytes held a g k = subst (λ (o : Option (List ℕ)). AnswersEntry p o a) (sym g) k
 
-module _ (name : List ℕ) (held held' : Option Contents) (reads reads' puts puts' : List ℕ → ℕ) (out out' : Option (List ℕ)) (outs outs' : ℕ) (err err' : Option (List ℕ)) (errs errs' : ℕ) where
-  -- the run of an entry that was read
-  pub read_ran : (bytes b : List ℕ) (s : Status) → b ≡ bytes → Holds held name bytes → length bytes ≤ most_graph → held' ≡ held → Kept reads reads' → Kept puts puts' → EndsText name b out out' outs outs' err err' errs errs' s
-      → EndsBy (of_entry name) (is_named name) (seen held reads puts out outs err errs) (seen held' reads' puts' out' outs' err' errs') s
-  read_ran bytes b s e holds small same kept kept' ends =
-      let known_is = get-known held name bytes holds in
-      ends_goes (λ h a. (h ≡ known held name bytes) × AnswersJudged name bytes (judge bytes) a) (of_entry name) (λ n. ⊥) (is_named name)
-      (seen held reads puts out outs err errs) (seen held reads puts out' outs' err' errs') (seen held' reads' puts' out' outs' err' errs')
-      (λ h a k. entered name bytes (known held name bytes) h a known_is k.0 (sized name bytes a small k.1)) (λ n k. absurd k)
-      (ap (λ x. outside_of x out') same) refl refl refl kept kept' s
-      (subst (λ (x : List ℕ). EndsText name x out out' outs outs' err err' errs errs' s) e ends held (known held name bytes) reads puts (stands-known held name bytes))
+module _ (p : Plan) (held held' held'' : Option Contents) (reads reads' reads'' puts puts' puts'' : List ℕ → ℕ) (out out' : Option (List ℕ)) (outs outs' : ℕ) (err err' : Option (List ℕ)) (errs errs' : ℕ) where
+  -- the answer to an entry that was read
+  pub read_answered : (bytes b : List ℕ) (s : Status) → b ≡ bytes → Holds held (graph_name p) bytes → length bytes ≤ most_graph → held' ≡ held → Kept puts puts' → Kept puts' puts'' → EndsText p b (seen held' reads' puts' out outs err errs) (seen held'' reads'' puts'' out' outs' err' errs') s
+      → EndsBy (of_entry p) (is_named (graph_name p)) (seen held reads puts out outs err errs) (seen held'' reads'' puts'' out' outs' err' errs') s
+  read_answered bytes b s e holds small same kept kept' ends =
+      let name = graph_name p in
+      let h = known held name bytes in
+      ends_back (λ k a. AnswersText p bytes a) (of_entry p) (λ n. ⊥) (is_named name)
+      (seen held reads puts out outs err errs) (seen held' reads' puts' out outs err errs) (seen held'' reads'' puts'' out' outs' err' errs')
+      h (stands-known held name bytes) (λ k a t. entered p bytes h a (get-known held name bytes holds) (sized p bytes a small t)) (λ n f. f)
+      (ap (λ x. outside_of x out) same) refl refl refl kept kept' s
+      (subst (λ (x : List ℕ). EndsText p x (seen held' reads' puts' out outs err errs) (seen held'' reads'' puts'' out' outs' err' errs') s) e ends)
 
-  pub read_failed : held' ≡ held → out' ≡ out → Rose (reads name) (reads' name) → Told (line (message_text message.ReadFault ++ name)) err err' errs errs'
-      → EndsBy (of_entry name) (is_named name) (seen held reads puts out outs err errs) (seen held' reads' puts' out' outs' err' errs') status.ReadFault
-  read_failed same same' rose t = record { name = name; asked = refl; rose = rose; untouched = ap (λ x. outside_of x out') same ∙ ap (outside_of held) same'; err = t }
+module _ (p : Plan) (held held' : Option Contents) (reads reads' puts puts' : List ℕ → ℕ) (out out' : Option (List ℕ)) (outs outs' : ℕ) (err err' : Option (List ℕ)) (errs errs' : ℕ) where
+  large : (bytes : List ℕ) → most_graph < length bytes → AnswersBytes p bytes (answer.refusal status.Limit (limit_line limit.GraphBytes (most_graph + 1)))
+  large bytes h = let big : nat_lt most_graph (length bytes) ≡ true = grind (arith, nat_tests) in subst (λ (b : Bool). AnswersSized p bytes b (answer.refusal status.Limit (limit_line limit.GraphBytes (most_graph + 1)))) (sym big) refl
 
-  pub read_starved : held' ≡ held → out' ≡ out → Told (line (message_text message.NoMemory)) err err' errs errs'
-      → EndsBy (of_entry name) (is_named name) (seen held reads puts out outs err errs) (seen held' reads' puts' out' outs' err' errs') status.NoMemory
-  read_starved same same' t = record { so_far = inl (ap (λ x. outside_of x out') same ∙ ap (outside_of held) same'); err = t }
-
-  large : (bytes : List ℕ) → most_graph < length bytes → AnswersBytes name bytes (answer.refusal status.Limit (limit_line limit.GraphBytes (most_graph + 1)))
-  large bytes h = let big : nat_lt most_graph (length bytes) ≡ true = grind (arith, nat_tests) in subst (λ (b : Bool). AnswersSized name bytes b (answer.refusal status.Limit (limit_line limit.GraphBytes (most_graph + 1)))) (sym big) refl
-
-  pub read_large : (bytes : List ℕ) → most_graph < length bytes → Holds held name bytes → held' ≡ held → out' ≡ out → Told (line (limit_line limit.GraphBytes (most_graph + 1))) err err' errs errs'
-      → EndsBy (of_entry name) (is_named name) (seen held reads puts out outs err errs) (seen held' reads' puts' out' outs' err' errs') status.Limit
+  pub read_large : (bytes : List ℕ) → most_graph < length bytes → Holds held (graph_name p) bytes → held' ≡ held → out' ≡ out → Told (line (limit_line limit.GraphBytes (most_graph + 1))) err err' errs errs'
+      → EndsBy (of_entry p) (is_named (graph_name p)) (seen held reads puts out outs err errs) (seen held' reads' puts' out' outs' err' errs') status.Limit
   read_large bytes h holds same same' t = record {
-    held = known held name bytes;
-    stands = stands-known held name bytes;
+    held = known held (graph_name p) bytes;
+    stands = stands-known held (graph_name p) bytes;
     answer = answer.refusal status.Limit (limit_line limit.GraphBytes (most_graph + 1));
-    answered = entered name bytes (known held name bytes) (known held name bytes) _ (get-known held name bytes holds) refl (large bytes h);
+    answered = entered p bytes (known held (graph_name p) bytes) _ (get-known held (graph_name p) bytes holds) (large bytes h);
     status = refl;
     done = ap (λ x. outside_of x out') same ∙ ap (outside_of held) same';
     err = t;
@@ -239,27 +326,41 @@ module _ (name : List ℕ) (held held' : Option Contents) (reads reads' puts put
 
 -- ---- words
 
-planned : (words : List (List ℕ)) (name : List ℕ) (held : Contents) (a : Answer) → plan words ≡ Ok (record { graph = name }) → of_entry name held a → Answers words held a
+planned : (words : List (List ℕ)) (p : Plan) (held : Contents) (a : Answer) → plan_by words ≡ Ok p → of_entry p held a → Answers words held a
 unfolding Answers
-planned words name held a p k = subst (λ (r : Result Plan Usage). AnswersPlan r held a) (sym p) k
+planned words p held a e k = subst (λ (r : Result Plan Usage). AnswersPlan r held a) (sym e) k
 
-refused_words : (words : List (List ℕ)) (u : Usage) (held : Contents) → plan words ≡ Err u → Answers words held (answer.refusal status.Usage (message_text message.Usage ++ usage_text u))
+refused_words : (words : List (List ℕ)) (u : Usage) (held : Contents) → plan_by words ≡ Err u → Answers words held (answer.refusal status.Usage (message_text message.Usage ++ usage_text u))
 unfolding Answers
-refused_words words u held p = subst (λ (r : Result Plan Usage). AnswersPlan r held (answer.refusal status.Usage (message_text message.Usage ++ usage_text u))) (sym p) refl
+refused_words words u held e = subst (λ (r : Result Plan Usage). AnswersPlan r held (answer.refusal status.Usage (message_text message.Usage ++ usage_text u))) (sym e) refl
 
-asked_for : (words : List (List ℕ)) (name n : List ℕ) → plan words ≡ Ok (record { graph = name }) → n ≡ name → Asks words n
-asked_for words name n p e = p ∙ ap (λ (x : List ℕ). Ok (record { graph = x })) (sym e)
+asked_for : (words : List (List ℕ)) (p : Plan) (n : List ℕ) → plan_by words ≡ Ok p → n ≡ graph_name p → Asks words n
+asked_for words p n e k = subst (λ (r : Result Plan Usage). AsksOf r n) (sym e) k
 
-pub words_ran : (words : List (List ℕ)) (name : List ℕ) (old new : Seen) (s : Status) → plan words ≡ Ok (record { graph = name }) → EndsBy (of_entry name) (is_named name) old new s → Ends words old new s
-words_ran words name old new s p ends = ends_goes (of_entry name) (Answers words) (is_named name) (Asks words) old new new (λ held a k. planned words name held a p k) (λ n e. asked_for words name n p e) refl refl refl refl (λ n. omega arith) (λ n. omega arith) s ends
+pub words_answered : (words : List (List ℕ)) (p : Plan) (old new : Seen) (s : Status) → plan_by words ≡ Ok p → EndsBy (of_entry p) (is_named (graph_name p)) old new s → Ends words old new s
+words_answered words p old new s e ends = ends_goes (of_entry p) (Answers words) (is_named (graph_name p)) (Asks words) old new (λ held a k. planned words p held a e k) (λ n k. asked_for words p n e k) s ends
 
-pub words_refused : (words : List (List ℕ)) (u : Usage) (old new : Seen) → plan words ≡ Err u → new.outside ≡ old.outside → ErrTook (line (message_text message.Usage ++ usage_text u)) old new → Ends words old new status.Usage
-words_refused words u old new p same t = record {
+words_stopped : (words : List (List ℕ)) (u : Usage) (old new : Seen) → plan_by words ≡ Err u → new.outside ≡ old.outside → ErrTook (line (message_text message.Usage ++ usage_text u)) old new → Ends words old new status.Usage
+words_stopped words u old new e same t = record {
   held = anything old.outside.held;
   stands = stands-anything old.outside.held;
   answer = answer.refusal status.Usage (message_text message.Usage ++ usage_text u);
-  answered = refused_words words u (anything old.outside.held) p;
+  answered = refused_words words u (anything old.outside.held) e;
   status = refl;
   done = same;
   err = t;
 }
+
+module _ (words : List (List ℕ)) (old new : Seen) (same : new.outside ≡ old.outside) where
+  refused_by_words : (u : Usage) → (u ≡ usage.NoMemory → ⊥) → (u ≡ usage.NoMemory) ⊎ (plan_by words ≡ Err u) → ErrTook (line (message_text message.Usage ++ usage_text u)) old new → Ends words old new status.Usage
+  refused_by_words u n (inl e) t = absurd (n e)
+  refused_by_words u n (inr e) t = words_stopped words u old new e same t
+
+  by_usage : (u : Usage) → (u ≡ usage.NoMemory) ⊎ (plan_by words ≡ Err u) → ErrTook (line (usage_line u)) old new → Ends words old new (usage_status u)
+  by_usage usage.UnknownCommand h t = refused_by_words usage.UnknownCommand (λ e. cc) h t
+  by_usage usage.Words h t = refused_by_words usage.Words (λ e. cc) h t
+  by_usage (usage.Value whose) h t = refused_by_words (usage.Value whose) (λ e. cc) h t
+  by_usage usage.NoMemory h t = record { so_far = inl same; err = t }
+
+  pub words_refused : (u : Usage) (s : Status) → (u ≡ usage.NoMemory) ⊎ (plan_by words ≡ Err u) → s ≡ usage_status u → ErrTook (line (usage_line u)) old new → Ends words old new s
+  words_refused u s h e t = subst (λ (x : Status). Ends words old new x) (sym e) (by_usage u h t)

@@ -5,4 +5,3 @@ pub mod Endings
 pub mod Judging
 pub mod Simulating
 pub mod Complete
-pub mod Worded

@@ -1,5 +1,5 @@
 -- How a call may end: what the outside shows before it and after it, and the status.
-use Rattle.std.specs.Prelude.{ℕ, ◌≡◌, ◌≤◌, ◌⊎◌, List, [], ◌∷◌, ◌++◌, Option, Some, None, codes}
+use Rattle.std.specs.Prelude.{ℕ, ◌≡◌, ◌≤◌, ◌⊎◌, List, [], ◌∷◌, ◌++◌, Option, Some, None}
 use Rattle.ss_top.specs.Message.{message_text}
 use Rattle.ss_top.specs.declared.print.Message.TheVariants as message
 use Rattle.ss_edge.specs.Edge.{Contents, Rose, Kept, PartlyPut, with_entry, more, TookSome}

@@ -1,7 +1,7 @@
 -- What a graph text is, and what the run of its graph prints.
-use Rattle.std.specs.Prelude.{ℕ, ◌≡◌, List, Option, Some, None, codes}
+use Rattle.std.specs.Prelude.{ℕ, ◌==◌, ◌^◌, ◌≡◌, List, Option, Some, None, if◌then◌else◌, codes}
 use Rattle.ss_model.specs.Step.{opening}
-use Rattle.ss_model.specs.End.{Behaviour, Limits, Outcome, IsRun, printed_texts}
+use Rattle.ss_model.specs.End.{Behaviour, Limits, Outcome, IsRun, ended, printed_texts}
 use Rattle.ss_element.specs.Kind.{behaviour}
 use Rattle.ss_graph.specs.declared.graph.Graph.{Graph}
 use Rattle.ss_graph.specs.declared.fault.GraphFault.{GraphFault}
@@ -62,16 +62,22 @@ judge bytes = judged_read bytes (first_fault (text_checks bytes))
 abbrev pub elements : Behaviour Any Load
 elements = behaviour any_kind
 
--- a run from the start, until the graph's stop time at the latest
-abbrev pub limits_of : Graph → Limits
-limits_of g = record { origin = 0; stop = g.options.stop_at; exit = g.options.exit_period }
+-- the stop time of a run: the one that is asked for, where 0 stands for the latest, or else the graph's
+abbrev pub stop_by : Option ℕ → ℕ → ℕ
+stop_by None stop = stop
+stop_by (Some asked) stop = if asked == 0 then 2 ^ 62 else asked
 
--- the run of a model from its opening prints these texts
-pub record Prints (m : Made) (l : Limits) (texts : List (List ℕ)) : Type 0 where
+-- a run from the start, until its stop time at the latest
+abbrev pub limits_of : Graph → Option ℕ → Limits
+limits_of g asked = record { origin = 0; stop = stop_by asked g.options.stop_at; exit = g.options.exit_period }
+
+-- the run of a model from its opening prints these texts, and leaves its components so
+pub record Prints (m : Made) (l : Limits) (texts : List (List ℕ)) (left : List Any) : Type 0 where
   pub outcome : Outcome
   pub run : IsRun elements m.wires l (opening m.elements) outcome
   pub printed : texts ≡ printed_texts elements m.wires (opening m.elements) outcome
+  pub leaves : left ≡ (ended elements m.wires (opening m.elements) outcome).components
 
--- the run of an accepted graph's text prints these texts
-unfoldable pub RunsTo : List ℕ → List (List ℕ) → Type 0
-RunsTo bytes texts = Prints (model_of (graph_of bytes)) (limits_of (graph_of bytes)) texts
+-- the run of an accepted graph, with the stop time that is asked for, prints these texts and leaves its components so
+unfoldable pub RunsTo : Graph → Option ℕ → List (List ℕ) → List Any → Type 0
+RunsTo g asked texts left = Prints (model_of g) (limits_of g asked) texts left

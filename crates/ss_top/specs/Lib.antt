@@ -1,5 +1,4 @@
 pub mod Message
-pub mod Words
 pub mod Judge
 pub mod Answer
 pub mod Headline

@@ -1,5 +1,5 @@
 -- What a refusal's line says.
-use Rattle.std.specs.Prelude.{ℕ, List, ◌∷◌, ◌++◌, codes, decimal}
+use Rattle.std.specs.Prelude.{ℕ, List, ◌++◌, codes, decimal}
 use Rattle.ss_graph.specs.declared.fault.LimitKind.{LimitKind}
 use Rattle.ss_graph.specs.declared.fault.LimitKind.TheVariants as limit
 use Rattle.ss_top.specs.declared.refusal.Fault.{Fault}
@@ -32,6 +32,7 @@ fault_text fault.UnknownType = codes "UnknownType "
 fault_text fault.UnknownPort = codes "UnknownPort "
 fault_text fault.Param = codes "Param "
 fault_text fault.PortUnlinked = codes "PortUnlinked "
+fault_text fault.BadThread = codes "BadThread "
 
 -- the name of a counted quantity, and a space
 unfoldable pub limit_text : LimitKind → List ℕ

@@ -3,15 +3,21 @@ use Rattle.std.specs.Prelude.{ℕ, ◌≡◌, Bool, true, false, List, [], ◌�
 use Rattle.ss_model.specs.End.{text_of, final_line}
 use Rattle.ss_graph.specs.declared.graph.Graph.{Graph}
 use Rattle.ss_graph.specs.declared.fault.GraphFault.{GraphFault}
-use Rattle.ss_graph.specs.Checks.{first_fault}
 use Rattle.ss_graph.specs.Faults.{is_memory}
 use Rattle.ss_library.specs.declared.fault.MakeFault.{MakeFault}
 use Rattle.ss_library.specs.Make.{make_checks, model_of}
 use Rattle.ss_library.specs.Make as making
 use Rattle.ss_top.specs.Message.{message_text, fault_line, limit_line}
-use Rattle.ss_top.specs.Answer.{line}
+use Rattle.ss_top.specs.Answer.{line, whole, graph_name, refused_as, AnswersJudged, sheets, undivided_by, division, stats_text}
+use Rattle.ss_library.specs.declared.kinds.Any.{Any}
+use Rattle.ss_cmd.specs.declared.RunOptions.{RunOptions}
+use Rattle.ss_part.specs.declared.How.{How}
+use Rattle.ss_part.specs.declared.PartFault.{PartFault}
+use Rattle.ss_part.specs.declared.PartFault.TheVariants as part_fault
+use Rattle.ss_top.specs.declared.simulate.Sheet.{Sheet}
+use Rattle.ss_cmd.specs.declared.Plan.{Plan}
 use Rattle.ss_top.specs.Printing.{Told}
-use Rattle.ss_top.specs.Judge.{Judged, not_text, at_fault, past_limit, accepted, refused_by, unmade_by, judge, limits_of, Prints, RunsTo}
+use Rattle.ss_top.specs.Judge.{Judged, not_text, at_fault, past_limit, accepted, refused_by, unmade_by, RunsTo}
 use Rattle.ss_top.specs.declared.print.Message.TheVariants as message
 use Rattle.ss_top.specs.declared.refusal.Fault.TheVariants as fault
 use Rattle.ss_top.specs.declared.refusal.Refusal.{Refusal}
@@ -29,11 +35,6 @@ judged_by refusal.SharedParams = Some (at_fault fault.SharedParams (codes "share
 judged_by (refusal.Limit k n) = Some (past_limit k n)
 judged_by refusal.NoMemory = None
 
--- a judgement is what is said, where anything is
-abbrev pub Says : Option Judged → Judged → Type 0
-Says None j = Unit {0}
-Says (Some i) j = j ≡ i
-
 -- of a fault
 abbrev pub IsSaid : Bool → Option Judged → Judged → Type 0
 IsSaid memory None j = Unit {0}
@@ -45,19 +46,46 @@ RefusedBy f r = IsSaid (is_memory f) (judged_by r) (refused_by f)
 abbrev pub UnmadeBy : MakeFault → Refusal → Type 0
 UnmadeBy f r = IsSaid (making.is_memory f) (judged_by r) (unmade_by f)
 
--- of a text
-abbrev pub IsVerdict : List ℕ → Verdict → Type 0
-IsVerdict bytes (verdict.Ran lines time) = (judge bytes ≡ accepted) × RunsTo bytes (map text_of lines.items ++ final_line time ∷ [])
-IsVerdict bytes (verdict.Refused r) = Says (judged_by r) (judge bytes)
+-- the bytes that are put, and their name
+abbrev pub puts_by : Option Sheet → List (List ℕ × List ℕ)
+puts_by None = []
+puts_by (Some s) = (s.name, s.text.items) ∷ []
 
--- of a graph that was read
-abbrev pub IsUnmade : Graph → Option Judged → Type 0
-IsUnmade g None = Unit {0}
-IsUnmade g (Some j) = (f : MakeFault) × (first_fault (make_checks g) ≡ Some f) × (unmade_by f ≡ j)
+abbrev pub is_part_memory : PartFault → Bool
+is_part_memory (part_fault.Parts n) = false
+is_part_memory (part_fault.BadThread c) = false
+is_part_memory part_fault.NoMemory = true
 
-abbrev pub IsMade : Graph → Verdict → Type 0
-IsMade g (verdict.Ran lines time) = (first_fault (make_checks g) ≡ None) × Prints (model_of g) (limits_of g) (map text_of lines.items ++ final_line time ∷ [])
-IsMade g (verdict.Refused r) = IsUnmade g (judged_by r)
+-- a refusal is what a judged graph answers
+abbrev pub IsRefusal : Plan → Graph → Judged → Option Judged → Type 0
+IsRefusal p g j None = Unit {0}
+IsRefusal p g j (Some i) = AnswersJudged p g j (refused_as (graph_name p) i)
+
+-- a run of an accepted graph, with the stop time that is asked for, or want of memory
+abbrev pub HasRun : Graph → RunOptions → Verdict → Type 0
+HasRun g o (verdict.Ran lines time sheet) = (left : List Any) × RunsTo g o.stop_at (map text_of lines.items ++ final_line time ∷ []) left × (puts_by sheet ≡ sheets o.stats (stats_text g left))
+HasRun g o (verdict.Listed texts) = ⊥
+HasRun g o (verdict.Refused r) = judged_by r ≡ None
+
+-- of a division
+abbrev pub UndividedBy : PartFault → Refusal → Type 0
+UndividedBy f r = IsSaid (is_part_memory f) (judged_by r) (undivided_by f)
+
+-- a division of an accepted graph, or its refusal, or want of memory
+abbrev pub IsUndivided : List ℕ → Graph → ℕ → How → Option Judged → Type 0
+IsUndivided name g parts how None = Unit {0}
+IsUndivided name g parts how (Some j) = refused_as name j ≡ division name g parts how
+
+abbrev pub IsDivided : List ℕ → Graph → ℕ → How → Verdict → Type 0
+IsDivided name g parts how (verdict.Ran lines time sheet) = ⊥
+IsDivided name g parts how (verdict.Listed texts) = whole (map (λ t. t.items) texts.items) [] ≡ division name g parts how
+IsDivided name g parts how (verdict.Refused r) = IsUndivided name g parts how (judged_by r)
+
+-- a verdict is what a judged graph answers
+abbrev pub IsVerdict : Plan → Graph → Judged → Verdict → Type 0
+IsVerdict p g j (verdict.Ran lines time sheet) = AnswersJudged p g j (whole (map text_of lines.items ++ final_line time ∷ []) (puts_by sheet))
+IsVerdict p g j (verdict.Listed texts) = AnswersJudged p g j (whole (map (λ t. t.items) texts.items) [])
+IsVerdict p g j (verdict.Refused r) = IsRefusal p g j (judged_by r)
 
 -- the status of a refusal, and its line
 abbrev pub status_of : Option Judged → Status

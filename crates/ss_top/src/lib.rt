@@ -1,8 +1,10 @@
 //! The top call of the simulator.
 #![tactic(auto)]
 
-ghost use Rattle.std.specs.Prelude.{◌≡◌, Ok, Err, codes, ◌++◌};
-ghost use Rattle.ss_top.specs.Answer.{AnswersEntry, Answers, Asks};
+ghost use Rattle.std.specs.Prelude.{◌≡◌, ◌≤◌};
+ghost use Rattle.ss_top.specs.Printing.{Told};
+ghost use Rattle.ss_cmd.specs.Grammar.{IsEarly};
+ghost use Rattle.ss_top.specs.Answer.{AnswersEntry, graph_name, line, usage_line, usage_status};
 ghost use Rattle.ss_top.specs.Headline.{EndsBy, Ends, Counted, seen, AllComplete, OneAnswer};
 ghost use Rattle.std.specs.FinMap.{get};
 
@@ -13,19 +15,17 @@ mod run;
 mod simulate;
 #[cfg(test)]
 mod tests;
-mod words;
 
 pub use print::{Message, tell, tell_plain};
 use reading::{ReadStop, read_entry};
 use refusal::tell_limit;
 pub use refusal::{Fault, Refusal};
-use run::run_text;
+use run::finish;
+use ss_cmd::{Plan, Usage, plan_of};
 use ss_edge::{Shelf, Sink};
 use ss_graph::LimitKind;
 use ss_units::Text;
 use std::alloc::Global;
-pub use words::Usage;
-use words::{graph_named, usage_name};
 
 /// How a call ended. The program's exit statuses are 0 to 4 for the first five variants, and 6, 7 and 8 for the others.
 #[derive(Clone, Copy, Debug, PartialEq, Eq)]
@@ -43,15 +43,53 @@ pub enum Status {
 /// The greatest number of bytes of a graph text.
 const MOST_GRAPH: usize = 67_108_864;
 
-/// Runs the graph that stands under a name.
-fn run_named<V: Shelf, K: Sink, R: Sink>(
+/// The name of the graph that a plan reads.
+fn name_of(plan: &Plan) -> &str
+    ensures { result.now ≡ graph_name plan.now }
+{
+    match plan {
+        Plan::Run { graph, .. } => graph.as_str(),
+        Plan::Check { graph } => graph.as_str(),
+        Plan::Partition { graph, .. } => graph.as_str(),
+    }
+}
+
+/// Writes the line of a refusal of words, or of want of memory. It takes no memory.
+fn tell_usage<R: Sink>(err: &mut R, usage: &Usage) -> Status
+    ensures status { result ≡ usage_status usage.now }
+    ensures told { Told (line (usage_line usage.now)) (R.taken err.old) (R.taken err.new) (R.faults err.old) (R.faults err.new) }
+    ensures faults { R.faults err.old ≤ R.faults err.new }
+{
+    match usage {
+        Usage::UnknownCommand => {
+            tell(err, Message::Usage, b"unknown command".as_slice());
+            Status::Usage
+        }
+        Usage::Words => {
+            tell(err, Message::Usage, b"words".as_slice());
+            Status::Usage
+        }
+        Usage::Value(whose) => {
+            tell(err, Message::Usage, whose.as_str().as_bytes());
+            Status::Usage
+        }
+        Usage::NoMemory => {
+            tell_plain(err, Message::NoMemory);
+            Status::NoMemory
+        }
+    }
+}
+
+/// Reads the graph of a plan and does with it what the plan asks.
+fn carry_out<V: Shelf, K: Sink, R: Sink>(
     alloc: Global,
-    name: &str,
+    plan: &Plan,
     shelf: &mut V,
     out: &mut K,
     err: &mut R,
 ) -> Status
-    ensures ends { EndsBy (λ held a. AnswersEntry name.now (get held name.now) a) (λ n. n ≡ name.now)
+    requires { IsEarly plan.now }
+    ensures ends { EndsBy (λ held a. AnswersEntry plan.now (get held (graph_name plan.now)) a) (λ n. n ≡ graph_name plan.now)
         (seen (V.held shelf.old) (V.read_faults shelf.old) (V.put_faults shelf.old) (K.taken out.old) (K.faults out.old) (R.taken err.old) (R.faults err.old))
         (seen (V.held shelf.new) (V.read_faults shelf.new) (V.put_faults shelf.new) (K.taken out.new) (K.faults out.new) (R.taken err.new) (R.faults err.new))
         result }
@@ -59,8 +97,9 @@ fn run_named<V: Shelf, K: Sink, R: Sink>(
         (seen (V.held shelf.old) (V.read_faults shelf.old) (V.put_faults shelf.old) (K.taken out.old) (K.faults out.old) (R.taken err.old) (R.faults err.old))
         (seen (V.held shelf.new) (V.read_faults shelf.new) (V.put_faults shelf.new) (K.taken out.new) (K.faults out.new) (R.taken err.new) (R.faults err.new)) }
 {
+    let name = name_of(plan);
     match read_entry(alloc, shelf, name, MOST_GRAPH) {
-        Ok(text) => run_text(alloc, name, text.as_slice(), out, err),
+        Ok(text) => finish(alloc, plan, text.as_slice(), shelf, out, err),
         Err(ReadStop::Failed) => {
             tell(err, Message::ReadFault, name.as_bytes());
             Status::ReadFault
@@ -78,8 +117,10 @@ fn run_named<V: Shelf, K: Sink, R: Sink>(
 
 /// Does what the words ask for, and tells how it ended.
 ///
-/// The words are those behind the program's name: `run GRAPH`. The graph is read from the shelf, what its
-/// run prints is written to `out`, a line at a time, and a refusal writes one line to `err`.
+/// The words are those behind the program's name, as `ss_cmd::plan_of` reads them: `run GRAPH`, `check GRAPH` or
+/// `partition GRAPH` with their options. The graph is read from the shelf. `run` writes what the run prints to `out`, a
+/// line at a time, and `--stop-at` stands in place of the graph's stop time; `check` says how many components and links
+/// an accepted graph has. A refusal writes one line to `err`.
 /// It waits for nobody and returns in any case. The statuses and lines are this project's own.
 pub fn sst_here<V: Shelf, K: Sink, R: Sink>(
     alloc: Global,
@@ -96,12 +137,9 @@ pub fn sst_here<V: Shelf, K: Sink, R: Sink>(
         (seen (V.held shelf.old) (V.read_faults shelf.old) (V.put_faults shelf.old) (K.taken out.old) (K.faults out.old) (R.taken err.old) (R.faults err.old))
         (seen (V.held shelf.new) (V.read_faults shelf.new) (V.put_faults shelf.new) (K.taken out.new) (K.faults out.new) (R.taken err.new) (R.faults err.new)) }
 {
-    match graph_named(words) {
-        Ok(name) => run_named(alloc, name, shelf, out, err),
-        Err(usage) => {
-            tell(err, Message::Usage, usage_name(usage));
-            Status::Usage
-        }
+    match plan_of(alloc, words) {
+        Ok(plan) => carry_out(alloc, &plan, shelf, out, err),
+        Err(usage) => tell_usage(err, &usage),
     }
 }
 

@@ -26,6 +26,22 @@ pub fn write_lines<K: Sink>(out: &mut K, lines: &[Line]) -> Result<(), Failed>
     Ok(())
 }
 
+/// Writes texts, each by one call.
+pub fn write_texts<K: Sink>(out: &mut K, texts: &[Vec<u8>]) -> Result<(), Failed>
+    ensures all { OnOk result (K.taken out.new ≡ more_all (map (λ t. t.items) texts.now) (K.taken out.old)) }
+    ensures some { OnErr result (StopsIn (map (λ t. t.items) texts.now) (K.taken out.old) (K.taken out.new)) }
+    ensures faults { K.faults out.old ≤ K.faults out.new }
+    ensures cause { OnErr result (Rose (K.faults out.old) (K.faults out.new)) }
+{
+    for text in texts {
+        match write_all(out, text.as_slice()) {
+            Ok(()) => (),
+            Err(_) => return Err(Failed),
+        }
+    }
+    Ok(())
+}
+
 /// What a refusal's line says in front of what it names.
 #[derive(Clone, Copy, Debug, PartialEq, Eq)]
 pub enum Message {

@@ -1,11 +1,12 @@
 //! Why a graph text is refused.
 
-ghost use Rattle.std.specs.Prelude.{◌≡◌, ◌≤◌, ◌++◌, decimal};
+ghost use Rattle.std.specs.Prelude.{◌≡◌, ◌≤◌, ◌++◌, IfOk, codes};
+ghost use Rattle.ss_graph.specs.Checks.{at};
 ghost use Rattle.ss_edge.specs.Edge.{Rose};
 ghost use Rattle.ss_top.specs.Answer.{line};
 ghost use Rattle.ss_top.specs.Message.{message_text, fault_text, limit_text, fault_line, limit_line};
 ghost use Rattle.ss_top.specs.Printing.{Told};
-ghost use Rattle.ss_top.specs.Simulate.{RefusedBy, UnmadeBy, TellsRefusal};
+ghost use Rattle.ss_top.specs.Simulate.{RefusedBy, UnmadeBy, UndividedBy, TellsRefusal};
 
 use crate::Status;
 use crate::print::{Message, tell, tell_plain, tell_two};
@@ -13,7 +14,9 @@ use itoa::Buffer;
 use ss_edge::Sink;
 use ss_graph::{GraphFault, LimitKind};
 use ss_library::MakeFault;
+use ss_part::PartFault;
 use ss_units::Text;
+use std::alloc::{AllocError, Global};
 
 /// The faults of a graph that a line names with their place.
 #[derive(Clone, Copy, Debug, PartialEq, Eq)]
@@ -30,6 +33,7 @@ pub enum Fault {
     UnknownPort,
     Param,
     PortUnlinked,
+    BadThread,
 }
 
 /// Why a graph text isn't run.
@@ -80,6 +84,36 @@ pub fn unmade(fault: MakeFault) -> Refusal
     }
 }
 
+/// The place of a component's thread.
+fn thread_place(alloc: Global, component: u32) -> Result<Text, AllocError>
+    ensures { IfOk result (λ t. t ≡ at (codes "components") component ++ codes ".partition.thread") }
+{
+    let mut place = String::from_str(alloc, "components")?;
+    let mut digits = Buffer::new();
+    place.push_str("[")?;
+    place.push_str(digits.format(component))?;
+    place.push_str("]")?;
+    place.push_str(".partition.thread")?;
+    Ok(Text::from_string(place))
+}
+
+/// By why a graph isn't divided.
+pub fn undivided(alloc: Global, fault: PartFault) -> Refusal
+    ensures { UndividedBy fault result }
+{
+    match fault {
+        PartFault::Parts { asked } => Refusal::Limit {
+            kind: LimitKind::Parts,
+            number: asked as u64,
+        },
+        PartFault::BadThread { component } => match thread_place(alloc, component) {
+            Ok(place) => graph(Fault::BadThread, place),
+            Err(_) => Refusal::NoMemory,
+        },
+        PartFault::NoMemory => Refusal::NoMemory,
+    }
+}
+
 #[tactic(auto, unfolding(crate::specs::Message::fault_text))]
 fn text_of_fault(fault: Fault) -> &'static [u8]
     ensures { result.now ≡ fault_text fault }
@@ -97,6 +131,7 @@ fn text_of_fault(fault: Fault) -> &'static [u8]
         Fault::UnknownPort => b"UnknownPort ",
         Fault::Param => b"Param ",
         Fault::PortUnlinked => b"PortUnlinked ",
+        Fault::BadThread => b"BadThread ",
     }
 }
 

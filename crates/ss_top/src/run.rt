@@ -1,17 +1,19 @@
 //! Running a graph text and writing what its run prints.
 
-ghost use Rattle.std.specs.Prelude.{◌≡◌, ◌≤◌, ◌++◌, ◌∷◌, [], ℕ, List, Option, map, codes, IfOk};
-ghost use Rattle.ss_edge.specs.Edge.{Contents};
+ghost use Rattle.std.specs.Prelude.{◌≡◌, ◌≤◌, ◌++◌, ◌∷◌, [], map, IfOk};
+ghost use Rattle.ss_cmd.specs.Grammar.{IsEarly};
 ghost use Rattle.ss_model.specs.End.{text_of, final_line};
-ghost use Rattle.ss_top.specs.Answer.{AnswersBytes, whole, most_graph};
-ghost use Rattle.ss_top.specs.Headline.{EndsBy, seen};
-ghost use Rattle.ss_top.specs.Writing.{Writes, EndsText};
+ghost use Rattle.ss_top.specs.Headline.{Counted, seen};
+ghost use Rattle.ss_edge.specs.Edge.{Kept};
+ghost use Rattle.ss_top.specs.Simulate.{puts_by};
+ghost use Rattle.ss_top.specs.Writing.{Writes, Puts, EndsText};
 
-use crate::Status;
-use crate::print::{Message, tell_plain, write_lines};
+use crate::print::{Message, tell, tell_plain, write_lines, write_texts};
 use crate::refusal::tell_refusal;
-use crate::simulate::{Verdict, simulate};
-use ss_edge::{Sink, write_all};
+use crate::simulate::{Sheet, Verdict, answer_text};
+use crate::{Status, name_of};
+use ss_cmd::Plan;
+use ss_edge::{Shelf, Sink, write_all};
 use ss_element::Line;
 use ss_units::push_decimal;
 use std::alloc::{AllocError, Global};
@@ -58,20 +60,66 @@ fn write_run<K: Sink, R: Sink>(
     }
 }
 
-/// Runs the graph of the bytes that stand under a name.
-pub fn run_text<K: Sink, R: Sink>(
-    alloc: Global,
-    name: &str,
-    text: &[u8],
-    out: &mut K,
-    err: &mut R,
-) -> Status
-    ensures ends { EndsText name.now text.now (K.taken out.old) (K.taken out.new) (K.faults out.old) (K.faults out.new) (R.taken err.old) (R.taken err.new) (R.faults err.old) (R.faults err.new) result }
+/// Writes texts that are listed.
+fn write_list<K: Sink, R: Sink>(texts: &[Vec<u8>], out: &mut K, err: &mut R) -> Status
+    ensures ends { Writes (map (λ t. t.items) texts.now) (K.taken out.old) (K.taken out.new) (K.faults out.old) (K.faults out.new) (R.taken err.old) (R.taken err.new) (R.faults err.old) (R.faults err.new) result }
     ensures out_faults { K.faults out.old ≤ K.faults out.new }
     ensures err_faults { R.faults err.old ≤ R.faults err.new }
 {
-    match simulate(alloc, text) {
-        Verdict::Refused(refusal) => tell_refusal(err, name, &refusal),
-        Verdict::Ran { lines, time } => write_run(alloc, lines.as_slice(), time, out, err),
+    match write_texts(out, texts) {
+        Ok(()) => Status::Whole,
+        Err(_) => {
+            tell_plain(err, Message::OutputFault);
+            Status::WriteFault
+        }
+    }
+}
+
+/// Puts the text of statistics, where there is one.
+fn put_sheet<V: Shelf, R: Sink>(sheet: &Option<Sheet>, shelf: &mut V, err: &mut R) -> Status
+    ensures ends { Puts (puts_by sheet.now) (V.held shelf.old) (V.held shelf.new) (V.put_faults shelf.old) (V.put_faults shelf.new) (R.taken err.old) (R.taken err.new) (R.faults err.old) (R.faults err.new) result }
+    ensures reads { Kept (V.read_faults shelf.old) (V.read_faults shelf.new) }
+    ensures puts { Kept (V.put_faults shelf.old) (V.put_faults shelf.new) }
+    ensures err_faults { R.faults err.old ≤ R.faults err.new }
+{
+    match sheet {
+        None => Status::Whole,
+        Some(sheet) => match shelf.put(sheet.name.as_str(), sheet.text.as_slice()) {
+            Ok(()) => Status::Whole,
+            Err(_) => {
+                tell(err, Message::WriteFault, sheet.name.as_str().as_bytes());
+                Status::WriteFault
+            }
+        },
+    }
+}
+
+/// Does with the graph of the bytes that were read what a plan asks.
+pub fn finish<V: Shelf, K: Sink, R: Sink>(
+    alloc: Global,
+    plan: &Plan,
+    text: &[u8],
+    shelf: &mut V,
+    out: &mut K,
+    err: &mut R,
+) -> Status
+    requires { IsEarly plan.now }
+    ensures ends { EndsText plan.now text.now
+        (seen (V.held shelf.old) (V.read_faults shelf.old) (V.put_faults shelf.old) (K.taken out.old) (K.faults out.old) (R.taken err.old) (R.faults err.old))
+        (seen (V.held shelf.new) (V.read_faults shelf.new) (V.put_faults shelf.new) (K.taken out.new) (K.faults out.new) (R.taken err.new) (R.faults err.new))
+        result }
+    ensures counted { Counted
+        (seen (V.held shelf.old) (V.read_faults shelf.old) (V.put_faults shelf.old) (K.taken out.old) (K.faults out.old) (R.taken err.old) (R.faults err.old))
+        (seen (V.held shelf.new) (V.read_faults shelf.new) (V.put_faults shelf.new) (K.taken out.new) (K.faults out.new) (R.taken err.new) (R.faults err.new)) }
+{
+    match answer_text(alloc, plan, text) {
+        Verdict::Refused(refusal) => tell_refusal(err, name_of(plan), &refusal),
+        Verdict::Ran { lines, time, sheet } => {
+            match write_run(alloc, lines.as_slice(), time, out, err) {
+                Status::Whole => put_sheet(&sheet, shelf, err),
+                status => status,
+            }
+        }
+        Verdict::Listed(texts) => write_list(texts.as_slice(), out, err),
     }
 }

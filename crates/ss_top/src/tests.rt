@@ -14,24 +14,30 @@ const PING_PONG: &str =
 const PONGS: &str =
     "ping: pong 1 at 2000 ps\nping: pong 2 at 4000 ps\nping: pong 3 at 6000 ps\nSimulation is complete, simulated time: 1000000 ps\n";
 
-fn run_named(alloc: Global, name: &str) -> Result<Vec<Text>, AllocError> {
+/// Four tickers in a ring, the first of which names thread 5.
+const RING: &str =
+    "{\"components\":[{\"name\":\"a\",\"type\":\"core.ticker\",\"partition\":{\"thread\":5}},{\"name\":\"b\",\"type\":\"core.ticker\"},{\"name\":\"c\",\"type\":\"core.ticker\"},{\"name\":\"d\",\"type\":\"core.ticker\"}],\"links\":[{\"name\":\"w\",\"left\":{\"component\":\"a\",\"port\":\"out\",\"latency\":\"1ps\"},\"right\":{\"component\":\"b\",\"port\":\"in0\",\"latency\":\"1ps\"}},{\"name\":\"x\",\"left\":{\"component\":\"b\",\"port\":\"out\",\"latency\":\"5ps\"},\"right\":{\"component\":\"c\",\"port\":\"in0\",\"latency\":\"5ps\"}},{\"name\":\"y\",\"left\":{\"component\":\"c\",\"port\":\"out\",\"latency\":\"1ps\"},\"right\":{\"component\":\"d\",\"port\":\"in0\",\"latency\":\"1ps\"}},{\"name\":\"z\",\"left\":{\"component\":\"d\",\"port\":\"out\",\"latency\":\"9ps\"},\"right\":{\"component\":\"a\",\"port\":\"in0\",\"latency\":\"9ps\"}}]}";
+
+/// The words of a line, which spaces part.
+fn words_of(alloc: Global, line: &str) -> Result<Vec<Text>, AllocError> {
     let mut words = Vec::new(alloc);
-    words.push(Text::new(alloc, "run")?)?;
-    words.push(Text::new(alloc, name)?)?;
+    for word in line.split_whitespace() {
+        words.push(Text::new(alloc, word)?)?;
+    }
     Ok(words)
 }
 
-fn shelf_with(alloc: Global, graph: &str) -> Result<MemShelf, AllocError> {
+fn shelf_with(alloc: Global, graph: &str, fails: Vec<(u64, u64)>) -> Result<MemShelf, AllocError> {
     let mut entries = Vec::new(alloc);
     let bytes = Vec::from_slice(alloc, graph.as_bytes())?;
     entries.push((Text::new(alloc, "g1.json")?, bytes))?;
-    MemShelf::new(alloc, entries, Vec::new(alloc))
+    MemShelf::new(alloc, entries, fails)
 }
 
 /// A call, and what it must leave.
 #[derive(Drop)]
 struct Case<'a> {
-    words: &'a [Text],
+    line: &'a str,
     graph: &'a str,
     most: usize,
     status: Status,
@@ -39,27 +45,39 @@ struct Case<'a> {
     err: &'a str,
 }
 
-/// Runs a case with a sink that fails at the listed calls.
-fn check(rt: &impl Abort, alloc: Global, case: &Case, fails: Vec<u64>) -> Result<(), AllocError> {
-    let mut shelf = shelf_with(alloc, case.graph)?;
+/// Runs a case over a shelf, with a sink that fails at the listed calls.
+fn check_over(
+    rt: &impl Abort,
+    alloc: Global,
+    case: &Case,
+    shelf: &mut MemShelf,
+    fails: Vec<u64>,
+) -> Result<(), AllocError> {
+    let words = words_of(alloc, case.line)?;
     let mut out = MemSink::new(alloc, case.most, fails);
     let mut err = MemSink::new(alloc, 0, Vec::new(alloc));
-    let status = sst_here(alloc, case.words, &mut shelf, &mut out, &mut err);
+    let status = sst_here(alloc, &words, shelf, &mut out, &mut err);
     assert_eq!(rt; status, case.status);
     assert_eq!(rt; out.bytes(), case.out.as_bytes());
     assert_eq!(rt; err.bytes(), case.err.as_bytes());
     Ok(())
 }
 
-fn graph_case<'a>(
-    words: &'a [Text],
+/// Runs a case with a sink that fails at the listed calls.
+fn check(rt: &impl Abort, alloc: Global, case: &Case, fails: Vec<u64>) -> Result<(), AllocError> {
+    let mut shelf = shelf_with(alloc, case.graph, Vec::new(alloc))?;
+    check_over(rt, alloc, case, &mut shelf, fails)
+}
+
+fn case_of<'a>(
+    line: &'a str,
     graph: &'a str,
     status: Status,
     out: &'a str,
     err: &'a str,
 ) -> Case<'a> {
     Case {
-        words,
+        line,
         graph,
         most: 0,
         status,
@@ -69,23 +87,137 @@ fn graph_case<'a>(
 }
 
 #[test]
-fn runs_whole(rt: HostRuntime) -> Result<(), Fail> {
+fn does_what_lines_ask(rt: HostRuntime) -> Result<(), Fail> {
     let alloc = rt.alloc();
-    let words = run_named(alloc, "g1.json")?;
-    let mut case = graph_case(&words, PING_PONG, Status::Whole, PONGS, "");
-    check(&rt, alloc, &case, Vec::new(alloc))?;
-    case.most = 1;
-    check(&rt, alloc, &case, Vec::new(alloc))?;
-    case.graph = "{\"components\":[]}";
-    case.out = "Simulation is complete, simulated time: 0 ps\n";
-    check(&rt, alloc, &case, Vec::new(alloc))?;
+    for (line, graph, out) in [
+        ("run g1.json", PING_PONG, PONGS),
+        (
+            "run g1.json",
+            "{\"components\":[]}",
+            "Simulation is complete, simulated time: 0 ps\n",
+        ),
+        (
+            "run g1.json --stop-at=3ns",
+            PING_PONG,
+            "ping: pong 1 at 2000 ps\nSimulation is complete, simulated time: 3000 ps\n",
+        ),
+        (
+            "run --stop-at 2ns g1.json",
+            PING_PONG,
+            "Simulation is complete, simulated time: 2000 ps\n",
+        ),
+        (
+            "check g1.json",
+            PING_PONG,
+            "graph accepted: 2 components, 1 links\n",
+        ),
+        (
+            "partition g1.json --parts=2 --partitioner=latency",
+            RING,
+            "a 0\nb 0\nc 1\nd 1\ncut 5 ps\n",
+        ),
+        ("partition g1.json", RING, "a 0\nb 0\nc 0\nd 0\ncut none\n"),
+        (
+            "partition g1.json --parts=2 --partitioner=roundrobin",
+            RING,
+            "a 0\nb 1\nc 0\nd 1\ncut 1 ps\n",
+        ),
+    ] {
+        let case = case_of(line, graph, Status::Whole, out, "");
+        check(&rt, alloc, &case, Vec::new(alloc))?;
+    }
+    Ok(())
+}
+
+#[test]
+fn refuses_lines(rt: HostRuntime) -> Result<(), Fail> {
+    let alloc = rt.alloc();
+    for (line, graph, status, err) in [
+        (
+            "",
+            PING_PONG,
+            Status::Usage,
+            "sst: usage: unknown command\n",
+        ),
+        (
+            "run --help",
+            PING_PONG,
+            Status::Usage,
+            "sst: usage: words\n",
+        ),
+        (
+            "run g1.json --stop-at=5000000s",
+            PING_PONG,
+            Status::Usage,
+            "sst: usage: --stop-at\n",
+        ),
+        (
+            "check g1.json",
+            "[]",
+            Status::Graph,
+            "sst: graph: Form graph\n",
+        ),
+        (
+            "partition g1.json --parts=3",
+            PING_PONG,
+            Status::Limit,
+            "sst: limit: parts 3\n",
+        ),
+        (
+            "partition g1.json --parts=4 --partitioner=self",
+            RING,
+            Status::Graph,
+            "sst: graph: BadThread components[0].partition.thread\n",
+        ),
+        (
+            "run g1.json",
+            "{\"components\":[",
+            Status::Text,
+            "sst: text: g1.json\n",
+        ),
+    ] {
+        let case = case_of(line, graph, status, "", err);
+        check(&rt, alloc, &case, Vec::new(alloc))?;
+    }
+    Ok(())
+}
+
+// The pinger and the echo, where the pinger is asked for its statistic.
+const ASKING: &str =
+    "{\"components\":[{\"name\":\"ping\",\"type\":\"core.pinger\",\"params\":{\"count\":3},\"statistics\":[{\"name\":\"roundtrip\"}]},{\"name\":\"echo\",\"type\":\"core.echo\",\"params\":{}}],\"links\":[{\"name\":\"wire\",\"left\":{\"component\":\"ping\",\"port\":\"port\",\"latency\":\"1ns\"},\"right\":{\"component\":\"echo\",\"port\":\"port\",\"latency\":\"1ns\"}}]}";
+
+#[test]
+fn puts_statistics(rt: HostRuntime) -> Result<(), Fail> {
+    let alloc = rt.alloc();
+    let mut shelf = shelf_with(alloc, ASKING, Vec::new(alloc))?;
+    let mut case = case_of(
+        "run g1.json --stats=s.csv",
+        ASKING,
+        Status::Whole,
+        PONGS,
+        "",
+    );
+    check_over(&rt, alloc, &case, &mut shelf, Vec::new(alloc))?;
+    let text = shelf.entry("s.csv").ok_or("no entry")?;
+    assert_eq!(rt;
+        text,
+        b"component,statistic,field,value\nping,roundtrip,count,3\nping,roundtrip,sum,6000\nping,roundtrip,sumsq,12000000\nping,roundtrip,min,2000\nping,roundtrip,max,2000\n".as_slice()
+    );
+    // Two reads come before the put, which keeps nine bytes.
+    let mut fails = Vec::new(alloc);
+    fails.push((2, 9))?;
+    let mut full = shelf_with(alloc, ASKING, fails)?;
+    case.status = Status::WriteFault;
+    case.err = "sst: write fault: s.csv\n";
+    check_over(&rt, alloc, &case, &mut full, Vec::new(alloc))?;
+    let part = full.entry("s.csv").ok_or("no entry")?;
+    assert_eq!(rt; part, b"component".as_slice());
     Ok(())
 }
 
 #[test]
 fn runs_clocks(rt: HostRuntime) -> Result<(), Fail> {
     let alloc = rt.alloc();
-    let words = run_named(alloc, "g1.json")?;
     for (graph, out) in [
         (
             "{\"components\":[{\"name\":\"a\",\"type\":\"core.ticker\",\"params\":{\"clock\":\"1ns\",\"count\":1}},{\"name\":\"b\",\"type\":\"core.ticker\",\"params\":{\"clock\":\"1ns\",\"count\":1}},{\"name\":\"c\",\"type\":\"core.ticker\",\"params\":{\"count\":0}}],\"links\":[{\"name\":\"x\",\"left\":{\"component\":\"b\",\"port\":\"out\",\"latency\":\"1ns\"},\"right\":{\"component\":\"c\",\"port\":\"in1\",\"latency\":\"1ns\"}},{\"name\":\"y\",\"left\":{\"component\":\"a\",\"port\":\"out\",\"latency\":\"1ns\"},\"right\":{\"component\":\"c\",\"port\":\"in0\",\"latency\":\"1ns\"}}]}",
@@ -108,7 +240,7 @@ fn runs_clocks(rt: HostRuntime) -> Result<(), Fail> {
             "ping: pong 1 at 2000 ps\nSimulation is complete, simulated time: 3000 ps\n",
         ),
     ] {
-        let case = graph_case(&words, graph, Status::Whole, out, "");
+        let case = case_of("run g1.json", graph, Status::Whole, out, "");
         check(&rt, alloc, &case, Vec::new(alloc))?;
     }
     Ok(())
@@ -117,15 +249,6 @@ fn runs_clocks(rt: HostRuntime) -> Result<(), Fail> {
 #[test]
 fn refuses_texts(rt: HostRuntime) -> Result<(), Fail> {
     let alloc = rt.alloc();
-    let words = run_named(alloc, "g1.json")?;
-    let broken = graph_case(
-        &words,
-        "{\"components\":[",
-        Status::Text,
-        "",
-        "sst: text: g1.json\n",
-    );
-    check(&rt, alloc, &broken, Vec::new(alloc))?;
     for (graph, err) in [
         ("{}", "sst: graph: Member components\n"),
         ("[]", "sst: graph: Form graph\n"),
@@ -146,55 +269,35 @@ fn refuses_texts(rt: HostRuntime) -> Result<(), Fail> {
             "sst: graph: Param components[0].params.count\n",
         ),
     ] {
-        let case = graph_case(&words, graph, Status::Graph, "", err);
+        let case = case_of("run g1.json", graph, Status::Graph, "", err);
         check(&rt, alloc, &case, Vec::new(alloc))?;
     }
     Ok(())
 }
 
 #[test]
-fn refuses_words(rt: HostRuntime) -> Result<(), Fail> {
-    let alloc = rt.alloc();
-    let none = Vec::new(alloc);
-    let unknown = graph_case(
-        &none,
-        PING_PONG,
-        Status::Usage,
-        "",
-        "sst: usage: unknown command\n",
-    );
-    check(&rt, alloc, &unknown, Vec::new(alloc))?;
-    let option = run_named(alloc, "--help")?;
-    let refused = graph_case(&option, PING_PONG, Status::Usage, "", "sst: usage: words\n");
-    check(&rt, alloc, &refused, Vec::new(alloc))?;
-    let empty = run_named(alloc, "")?;
-    let unnamed = graph_case(&empty, PING_PONG, Status::Usage, "", "sst: usage: GRAPH\n");
-    check(&rt, alloc, &unnamed, Vec::new(alloc))?;
-    Ok(())
-}
-
-#[test]
 fn tells_faults(rt: HostRuntime) -> Result<(), Fail> {
     let alloc = rt.alloc();
-    let words = run_named(alloc, "g1.json")?;
     let mut fails = Vec::new(alloc);
     fails.push(1)?;
-    let write = graph_case(
-        &words,
+    let write = case_of(
+        "run g1.json",
         PING_PONG,
         Status::WriteFault,
         "ping: pong 1 at 2000 ps\n",
         "sst: write fault: output\n",
     );
     check(&rt, alloc, &write, fails)?;
-    let other = run_named(alloc, "g2.json")?;
-    let read = graph_case(
-        &other,
+    let read = case_of(
+        "run g2.json",
         PING_PONG,
         Status::ReadFault,
         "",
         "sst: read fault: g2.json\n",
     );
     check(&rt, alloc, &read, Vec::new(alloc))?;
+    let mut bytewise = case_of("run g1.json", PING_PONG, Status::Whole, PONGS, "");
+    bytewise.most = 1;
+    check(&rt, alloc, &bytewise, Vec::new(alloc))?;
     Ok(())
 }

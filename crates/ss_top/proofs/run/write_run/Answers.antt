@@ -1,6 +1,6 @@
 use Rattle.std.proofs.Common.{refl, ◌∙◌, map}
 use Rattle.ss_model.specs.End.{text_of, final_line}
-use Rattle.ss_top.proofs.Texts.{all_last, stops_first, stops_last}
+use Rattle.ss_top.proofs.Texts.{all_last}
 use Rattle.ss_top.proofs.run.write_run.Goals as goal
 
 pub returns-in-Ok-write_all-clause-ends : goal.returns-in-Ok-write_all-clause-ends

@@ -1,4 +1,4 @@
-use Rattle.std.proofs.Common.{◌≡◌, sym, subst}
+use Rattle.std.proofs.Common.{sym, subst}
 use Rattle.ss_element.specs.World.{IsSafe}
 use Rattle.ss_library.specs.declared.kinds.Any.{Any}
 use Rattle.ss_library.specs.declared.kinds.Load.{Load}

@@ -1,0 +1,4 @@
+pub mod Plans
+pub mod Times
+pub mod Walks
+pub mod Logs

@@ -1,0 +1,91 @@
+//! The words behind a command, as clap reads them.
+
+ghost use Rattle.std.specs.Prelude.{◌≡◌, ◌⊎◌, IfOk};
+ghost use Rattle.clap.specs.Words.{app_of, kind_of, with_rule};
+ghost use Rattle.clap.specs.declared.error.kind.ErrorKind.TheVariants as kind;
+ghost use Rattle.ss_cmd.specs.declared.Usage.TheVariants as usage;
+ghost use Rattle.ss_cmd.specs.Words.{texts};
+ghost use Rattle.ss_cmd.specs.Reads.{Reads, Texts, app_for, graph_app, option_rule};
+
+use crate::Usage;
+use clap::error::ErrorKind;
+use clap::{Arg, ArgAction, ArgMatches, Command, Error};
+use ss_units::Text;
+use std::alloc::{AllocError, Global};
+
+/// The words, as clap takes them.
+pub fn texts_of<'a>(alloc: Global, words: &'a [Text]) -> Result<Vec<&'a str>, AllocError>
+    ensures { IfOk result (λ r. (texts r.items ≡ words.now) × Texts words.now) }
+{
+    let mut read = Vec::new(alloc);
+    for word in words {
+        read.push(word.as_str())?;
+    }
+    Ok(read)
+}
+
+/// A command of one argument, the graph's name.
+fn graph_command<'a>(alloc: Global) -> Result<Command<'a>, AllocError>
+    ensures { IfOk result (λ r. app_of r ≡ graph_app) }
+{
+    let graph = Arg::new(alloc, "GRAPH")
+        .required(true)
+        .action(ArgAction::Set);
+    Command::new(alloc, "sst")
+        .no_binary_name(true)
+        .disable_help_flag(true)
+        .arg(graph)
+}
+
+/// The command with an option that takes one value.
+fn with_option<'a>(
+    alloc: Global,
+    command: Command<'a>,
+    id: &'a str,
+    long: &'a str,
+) -> Result<Command<'a>, AllocError>
+    ensures { IfOk result (λ r. app_of r ≡ with_rule (app_of command.entry) (option_rule id.entry.now long.entry.now)) }
+{
+    let option = Arg::new(alloc, id).long(long).action(ArgAction::Set);
+    command.arg(option)
+}
+
+fn command_for<'a>(alloc: Global, command: crate::Command) -> Result<Command<'a>, AllocError>
+    ensures { IfOk result (λ r. app_of r ≡ app_for command) }
+{
+    let graph = graph_command(alloc)?;
+    match command {
+        crate::Command::Run => {
+            let first = with_option(alloc, graph, "--stop-at", "stop-at")?;
+            with_option(alloc, first, "--stats", "stats")
+        }
+        crate::Command::Check => Ok(graph),
+        crate::Command::Partition => {
+            let first = with_option(alloc, graph, "--parts", "parts")?;
+            with_option(alloc, first, "--partitioner", "partitioner")
+        }
+    }
+}
+
+/// The values that the words behind a command give.
+pub fn matches_of<'a>(
+    alloc: Global,
+    command: crate::Command,
+    words: &'a [&'a str],
+) -> Result<ArgMatches<'a>, Error>
+    ensures { Reads command (texts words.entry.now) result }
+{
+    let parser = command_for(alloc, command)?;
+    parser.try_get_matches_from(words)
+}
+
+/// Why clap takes no words.
+pub fn refusal(error: &Error) -> Usage
+    ensures memory { kind_of error.now ≡ kind.OutOfMemory → result ≡ usage.NoMemory }
+    ensures either { (result ≡ usage.NoMemory) ⊎ (result ≡ usage.Words) }
+{
+    match error.kind() {
+        ErrorKind::OutOfMemory => Usage::NoMemory,
+        _ => Usage::Words,
+    }
+}
