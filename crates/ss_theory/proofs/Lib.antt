@@ -1,0 +1,13 @@
+pub mod Lists
+pub mod Sorted
+pub mod Colours
+pub mod Steps
+pub mod Windows
+pub mod Theorems
+pub mod Ranges
+pub mod Alone
+pub mod Stable
+pub mod Rounds
+pub mod Least
+pub mod Bounds
+pub mod Agreement

@@ -1,0 +1,5 @@
+pub mod Places
+pub mod Mails
+pub mod Later
+pub mod Runs
+pub mod Batches

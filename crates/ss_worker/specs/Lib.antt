@@ -1,0 +1,5 @@
+pub mod Placed
+pub mod Sorted
+pub mod Standing
+pub mod Reacting
+pub mod Batched
