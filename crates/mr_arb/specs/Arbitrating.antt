@@ -1,0 +1,94 @@
+-- Arbiters after Merlin's: which request each output of a crossbar grants. Outputs are served in ascending order, and an input that
+-- was granted has no further grant.
+use Rattle.std.specs.Prelude.{ℕ, ◌+◌, ◌-◌, ◌*◌, ◌^◌, ◌<◌, ◌≤◌, ◌≡◌, ◌==◌, List, [], ◌∷◌, length, slice_index, slice_get, slice_set, map, filter, fold, Bool, true, false, not, slice_index_or, nat_le, nat_lt, if◌then◌else◌, Option, Some, None}
+use Rattle.std.specs.List.{range_with_len}
+use Rattle.mr_arb.specs.declared.Request.{Request}
+use Rattle.mr_arb.specs.declared.ArbKind.{ArbKind}
+use Rattle.mr_arb.specs.declared.ArbKind.TheVariants.{RoundRobin as RoundRobinKind, LeastRecent as LeastRecentKind, Age as AgeKind}
+use Rattle.mr_arb.specs.declared.turn.Turn.{Turn}
+use Rattle.mr_arb.specs.declared.turn.Turn.TheVariants.{RoundRobin, LeastRecent, Age}
+
+-- An output's turn. Round robin keeps the slot to begin with, least recently used the place of each slot in its list of slots.
+-- The least rank wins: the first in cyclic order of slots, the first of the list, or the least born and then the lowest slot.
+abbrev pub rank : ℕ → Turn → Request → ℕ
+rank slots (RoundRobin first) q = if nat_le first q.slot then q.slot - first else q.slot + slots - first
+rank slots (LeastRecent places) q = slice_index places q.slot
+rank slots Age q = q.born * slots + q.slot
+
+-- the first request of least rank
+abbrev pub better : (Request → ℕ) → Option Request → Request → Option Request
+better f None q = Some q
+better f (Some p) q = if nat_lt (f q) (f p) then Some q else Some p
+
+abbrev pub least : (Request → ℕ) → List Request → Option Request
+least f qs = fold (better f) None qs
+
+abbrev pub winner : ℕ → ℕ → Turn → List Request → Option Request
+winner slots output turn qs = least (rank slots turn) (filter (λ q. q.output == output) qs)
+
+-- a place in the list after the slot at a place has moved to the end
+abbrev pub moved : ℕ → ℕ → ℕ → ℕ
+moved at last place = if place == at then last else (if nat_lt at place then place - 1 else place)
+
+-- the turn after a slot was granted
+abbrev pub passed : ℕ → Turn → ℕ → Turn
+passed slots (RoundRobin first) slot = RoundRobin (if slot + 1 == slots then 0 else slot + 1)
+passed slots (LeastRecent places) slot = LeastRecent (map (moved (slice_index places slot) (slots - 1)) places)
+passed slots Age slot = Age
+
+abbrev pub turn_after : ℕ → Turn → Option Request → Turn
+turn_after slots turn None = turn
+turn_after slots turn (Some q) = passed slots turn q.slot
+
+-- the granted slot, or 2^32 - 1 where none is granted
+abbrev pub grant_of : Option Request → ℕ
+grant_of None = 2 ^ 32 - 1
+grant_of (Some q) = q.slot
+
+-- the requests of inputs that weren't granted
+abbrev pub free : List Bool → List Request → List Request
+free granted qs = filter (λ q. not (slice_index_or granted q.input false)) qs
+
+-- the marks with that of a granted input
+abbrev pub marked : List Bool → Option Request → List Bool
+marked granted None = granted
+marked granted (Some q) = slice_set granted q.input true
+
+-- the requests that are left: those of other inputs
+abbrev pub left : Option Request → List Request → List Request
+left None qs = qs
+left (Some q) qs = filter (λ p. not (p.input == q.input)) qs
+
+-- the turns and the grants of the outputs from one on
+abbrev pub picks : ℕ → ℕ → List Turn → List Request → List Turn × List ℕ
+picks slots output [] qs = ([], [])
+picks slots output (turn ∷ turns) qs =
+    let w = winner slots output turn qs in
+    let rest = picks slots (output + 1) turns (left w qs) in
+    (turn_after slots turn w ∷ rest.0, grant_of w ∷ rest.1)
+
+-- a turn of an arbiter with so many slots
+abbrev pub Fits : ℕ → Turn → Type 0
+Fits slots (RoundRobin first) = first < slots
+Fits slots (LeastRecent places) = length places ≡ slots
+Fits slots Age = Unit {0}
+
+abbrev pub EachFits : ℕ → List Turn → Type 0
+EachFits slots turns = (o : ℕ) (turn : Turn) → slice_get turns o ≡ Some turn → Fits slots turn
+
+-- turns of an arbiter, one per output
+pub record Arbiting : Type 0 where
+  pub slots : ℕ
+  pub turns : List Turn
+
+pub record IsArbiter (slots : ℕ) (turns : List Turn) (places : ℕ) : Type 0 where
+  pub few : slots ≤ 4096
+  pub outputs : length turns < 2 ^ 16
+  pub inputs : places ≡ slots
+  pub fit : EachFits slots turns
+
+-- the first turn of an output
+abbrev pub turn_of : ArbKind → ℕ → Turn
+turn_of RoundRobinKind slots = RoundRobin 0
+turn_of LeastRecentKind slots = LeastRecent (range_with_len 0 slots)
+turn_of AgeKind slots = Age

@@ -1,0 +1,5 @@
+pub mod Back
+pub mod Numbers
+pub mod Places
+pub mod Shapes
+pub mod Walk

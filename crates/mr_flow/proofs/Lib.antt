@@ -1,0 +1,4 @@
+pub mod Rows
+pub mod Sides
+pub mod Turns
+pub mod Flows

@@ -1,0 +1,4 @@
+pub mod Queue
+pub mod Side
+pub mod Flow
+pub mod Moves

@@ -1,0 +1,4 @@
+pub mod Networks
+pub mod Reading
+pub mod Rows
+pub mod Shapes

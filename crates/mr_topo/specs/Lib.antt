@@ -1,0 +1,4 @@
+pub mod Routes
+pub mod Grid
+pub mod Shape
+pub mod Single
