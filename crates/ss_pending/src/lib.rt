@@ -114,7 +114,8 @@ impl<L> Pending<L> {
         }
     }
 
-    /// Puts in an event, behind those with its key. It fails only where no memory is left, and then changes nothing.
+    /// Puts in an event, behind those with its key. It fails only where no memory is left, or where 2^64 - 1 events were
+    /// put in before it, and then changes nothing.
     pub fn insert(&mut self, event: Event<L>) -> Result<(), AllocError>
     where
         L: Copy + Drop,
