@@ -95,6 +95,13 @@ impl Partition {
     {
         self.list[component as usize]
     }
+
+    /// The number of each component's part, in the order of the graph. It takes no memory.
+    pub fn owners(&self) -> &[u32]
+        ensures { result.now ≡ self.now.list }
+    {
+        &self.list
+    }
 }
 
 /// Each component goes into the part of the thread that it names, or the first that isn't placed so.
@@ -157,6 +164,7 @@ pub fn assign(alloc: Global, graph: &Graph, parts: u32, how: How) -> Result<Part
     ensures ok { IfOk result (λ d. (refusal graph.now parts how ≡ None) × (d ≡ record { parts = parts; list = assigned graph.now parts how })) }
     ensures err { IfErr result (λ e. (e ≡ NoMemory) ⊎ (refusal graph.now parts how ≡ Some e)) }
     ensures whole { IfOk result (λ d. length d.list ≡ length graph.now.components) }
+    ensures below { IfOk result (λ d. AreBelow d.list d.parts) }
     ensures best { IfOk result (λ d. how ≡ Latency → 0 < length graph.now.components → IsBest graph.now d.list parts) }
 {
     let most = graph.components.as_slice().len().max(1);
