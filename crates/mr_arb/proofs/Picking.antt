@@ -1,41 +1,17 @@
 -- Arbitration output by output.
-use Rattle.std.proofs.Common.{◌≡◌, ℕ, zero, suc, ◌+◌, ◌<◌, ◌≤◌, List, [], ◌∷◌, ◌++◌, length, ◌^◌, replicate, slice_get, refl, ap, sym, subst, ◌∙◌, arith, add-one, get_or, set, take, drop, map, Bool, true, false, not, nat_lt, ◌-◌, append_assoc, ◌&&◌, Option, Some, None, ◌==◌, if◌then◌else◌, drop-cons, ◌≢◌}
-use Rattle.std.specs.List.{range_with_len, filter, fold, All}
+use Rattle.std.proofs.Common.{◌≡◌, ℕ, zero, suc, ◌+◌, ◌<◌, ◌≤◌, List, [], ◌∷◌, ◌++◌, length, ◌^◌, replicate, slice_get, refl, ap, sym, subst, ◌∙◌, arith, add-one, get_or, set, take, drop, Bool, true, false, not, nat_lt, append_assoc, ◌&&◌, Option, Some, None, ◌==◌, if◌then◌else◌, drop-cons, ◌≢◌}
+use Rattle.std.specs.List.{filter, fold, All}
 use Rattle.std.proofs.lemmas.Grind.{common_steps}
 use Rattle.std.proofs.lemmas.List.Elements.{filter-append, All-filter, All-tail, All-more}
 use Rattle.std.proofs.lemmas.List.Sums.{fold-append}
-use Rattle.std.proofs.lemmas.List.{append-nil, length-replicate, take_all, drop_all, get_or-drop, take_more}
+use Rattle.std.proofs.lemmas.List.{append-nil, length-replicate, take_all, get_or-drop, take_more}
 use Rattle.mr_arb.specs.declared.Request.{Request}
 use Rattle.mr_arb.specs.declared.turn.Turn.{Turn}
 use Rattle.mr_arb.specs.declared.turn.Turn.TheVariants.{RoundRobin, LeastRecent, Age}
-use Rattle.mr_arb.specs.Arbitrating.{rank, better, least, winner, free, moved, turn_of, turn_after, passed, grant_of, left, picks, Fits, EachFits, IsArbiter, marked}
+use Rattle.mr_arb.specs.Arbitrating.{rank, better, least, winner, free, turn_of, turn_after, passed, grant_of, left, picks, Fits, EachFits, IsArbiter, marked}
 use Rattle.mr_arb.specs.declared.ArbKind.{ArbKind}
 use Rattle.mr_arb.specs.declared.ArbKind.TheVariants.{RoundRobin as RoundRobinKind, LeastRecent as LeastRecentKind, Age as AgeKind}
-use Rattle.std.proofs.lemmas.List.FromFn.{length-range_with_len}
-
-range-suc : (a n : ℕ) → range_with_len a (suc n) ≡ range_with_len a n ++ (a + n) ∷ []
-range-suc a zero = ap (λ (x : ℕ). x ∷ []) (omega arith)
-range-suc a (suc n) =
-    let e : a + 1 + n ≡ a + suc n = omega arith in
-    ap (λ (xs : List ℕ). a ∷ xs) (range-suc (a + 1) n ∙ ap (λ (x : ℕ). range_with_len (a + 1) n ++ x ∷ []) e)
-
-pub range_more : (n : ℕ) → range_with_len 0 (n + 1) ≡ range_with_len 0 n ++ n ∷ []
-range_more n = let e : 0 + n ≡ n = omega arith in rw (add-one n) (range-suc 0 n ∙ ap (λ (x : ℕ). range_with_len 0 n ++ x ∷ []) e)
-
--- a list that is changed place by place
-
-get-step : (f : ℕ → ℕ) (xs : List ℕ) (i : ℕ) → i < length xs → get_or (map f (take i xs) ++ drop i xs) i 0 ≡ get_or xs i 0
-get-step f [] i l = absurd (omega (arith, l))
-get-step f (x ∷ xs) zero l = refl
-get-step f (x ∷ xs) (suc i) l = get-step f xs i (omega (arith, l))
-
-set-step : (f : ℕ → ℕ) (xs : List ℕ) (i : ℕ) → i < length xs → set (map f (take i xs) ++ drop i xs) i (f (get_or xs i 0)) ≡ map f (take (suc i) xs) ++ drop (suc i) xs
-set-step f [] i l = absurd (omega (arith, l))
-set-step f (x ∷ xs) zero l = refl
-set-step f (x ∷ xs) (suc i) l = ap (λ (ys : List ℕ). f x ∷ ys) (set-step f xs i (omega (arith, l)))
-
-pub map_step : (f : ℕ → ℕ) (xs items : List ℕ) (i y : ℕ) → i < length xs → items ≡ map f (take i xs) ++ drop i xs → y ≡ f (get_or items i 0) → set items i y ≡ map f (take (i + 1) xs) ++ drop (i + 1) xs
-map_step f xs items i y l e h = rw (add-one i) (ap (λ (n : ℕ). set items i n) (h ∙ ap (λ (ys : List ℕ). f (get_or ys i 0)) e ∙ ap f (get-step f xs i l)) ∙ ap (λ (ys : List ℕ). set ys i (f (get_or xs i 0))) e ∙ set-step f xs i l)
+use Rattle.mr_arb.proofs.Orders.{order_range, order_to_end}
 
 -- the winner, request by request
 
@@ -88,7 +64,7 @@ slice-get-replicate (suc n) (suc o) x y e = slice-get-replicate n o x y e
 
 first-fits : (kind : ArbKind) (slots : ℕ) → 1 ≤ slots → Fits slots (turn_of kind slots)
 first-fits RoundRobinKind slots h = h
-first-fits LeastRecentKind slots h = length-range_with_len 0 slots
+first-fits LeastRecentKind slots h = order_range slots
 first-fits AgeKind slots h = tt
 
 pub arbiter_first : (kind : ArbKind) (slots n : ℕ) → 1 ≤ slots → slots ≤ 4096 → n < 2 ^ 16 → IsArbiter slots (replicate n (turn_of kind slots)) slots
@@ -166,17 +142,13 @@ grants_step slots i whole grants new rest tail t w qs left_over h e v n l =
 
 -- turns keep fitting
 
-length-map-turn : (f : ℕ → ℕ) (xs : List ℕ) → length (map f xs) ≡ length xs
-length-map-turn f [] = refl
-length-map-turn f (x ∷ xs) = ap suc (length-map-turn f xs)
-
 next-fits : (slots slot : ℕ) (b : Bool) → (slot + 1 == slots) ≡ b → slot < slots → (if b then 0 else slot + 1) < slots
 next-fits slots slot true e l = omega (arith, l)
 next-fits slots slot false e l = let n : slot + 1 ≢ slots = grind (arith, e) in omega (arith, l, n)
 
 passed-fits : (slots slot : ℕ) (turn : Turn) → slot < slots → Fits slots turn → Fits slots (passed slots turn slot)
 passed-fits slots slot (RoundRobin first) l h = next-fits slots slot (slot + 1 == slots) refl l
-passed-fits slots slot (LeastRecent places) l h = length-map-turn (moved (get_or places slot 0) (slots - 1)) places ∙ h
+passed-fits slots slot (LeastRecent order) l h = order_to_end slots slot order l h
 passed-fits slots slot Age l h = tt
 
 after-fits : (slots : ℕ) (turn : Turn) (w : Option Request) → ((q : Request) → w ≡ Some q → q.slot < slots) → Fits slots turn → Fits slots (turn_after slots turn w)
@@ -193,9 +165,9 @@ picks-fit slots output (t ∷ turns) qs a h zero turn e =
     subst (Fits slots) (some-same (turn_after slots t (winner slots output t qs)) turn e) (after-fits slots t (winner slots output t qs) (λ q w. winner-in-from (rank slots t) (λ p. p.slot < slots) (filter (asks output) qs) None q (λ x n. absurd (none-some x n)) (All-filter (asks output) (λ p. p.slot < slots) qs a) w) (h 0 t refl))
 picks-fit slots output (t ∷ turns) qs a h (suc o) turn e = picks-fit slots (output + 1) turns (left (winner slots output t qs) qs) (left-all (λ p. p.slot < slots) (winner slots output t qs) qs a) (λ k x n. h (suc k) x n) o turn e
 
-pub length-picks : (slots output : ℕ) (turns : List Turn) (qs : List Request) → length (picks slots output turns qs).0 ≡ length turns
-length-picks slots output [] qs = refl
-length-picks slots output (t ∷ turns) qs = ap suc (length-picks slots (output + 1) turns (left (winner slots output t qs) qs))
+pub length_picks : (slots output : ℕ) (turns : List Turn) (qs : List Request) → length (picks slots output turns qs).0 ≡ length turns
+length_picks slots output [] qs = refl
+length_picks slots output (t ∷ turns) qs = ap suc (length_picks slots (output + 1) turns (left (winner slots output t qs) qs))
 
 -- the turn at an output
 
@@ -258,13 +230,7 @@ free_all granted qs n l h = free-all granted qs (subst (All (λ p. get_or grante
 pub arbiter_kept : (slots n k : ℕ) (turns new : List Turn) (qs : List Request) → All (λ q. q.slot < slots) qs → IsArbiter slots turns n → new ≡ (picks slots 0 turns qs).0 → k ≡ slots → IsArbiter slots new k
 arbiter_kept slots n k turns new qs a h e l = record {
   few = h.few;
-  outputs = rw (e, length-picks slots 0 turns qs) h.outputs;
+  outputs = rw (e, length_picks slots 0 turns qs) h.outputs;
   inputs = l;
   fit = subst (EachFits slots) (sym e) (picks-fit slots 0 turns qs a h.fit);
 }
-
--- a list that is put back into a vector
-pub put_back : {X : Type 0} (xs items : List X) (n : ℕ) → length xs ≡ length items → n ≡ length items → take n (xs ++ drop (length xs) items) ≡ xs
-put_back xs items n e l =
-    let d : drop (length xs) items ≡ [] = drop_all (length xs) items (omega (arith, e)) in
-    rw d (ap (take n) (append-nil xs) ∙ take_all n xs (omega (arith, e, l)))

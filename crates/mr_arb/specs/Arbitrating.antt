@@ -1,18 +1,19 @@
 -- Arbiters after Merlin's: which request each output of a crossbar grants. Outputs are served in ascending order, and an input that
 -- was granted has no further grant.
-use Rattle.std.specs.Prelude.{ℕ, ◌+◌, ◌-◌, ◌*◌, ◌^◌, ◌<◌, ◌≤◌, ◌≡◌, ◌==◌, List, [], ◌∷◌, length, slice_index, slice_get, slice_set, map, filter, fold, Bool, true, false, not, slice_index_or, nat_le, nat_lt, if◌then◌else◌, Option, Some, None}
+use Rattle.std.specs.Prelude.{ℕ, ◌+◌, ◌-◌, ◌*◌, ◌^◌, ◌<◌, ◌≤◌, ◌≡◌, ◌==◌, List, [], ◌∷◌, length, slice_get, slice_set, filter, fold, Bool, true, false, not, slice_index_or, nat_le, nat_lt, if◌then◌else◌, Option, Some, None}
 use Rattle.std.specs.List.{range_with_len}
+use Rattle.mr_arb.specs.Slots.{IsOrder, place_of, to_end}
 use Rattle.mr_arb.specs.declared.Request.{Request}
 use Rattle.mr_arb.specs.declared.ArbKind.{ArbKind}
 use Rattle.mr_arb.specs.declared.ArbKind.TheVariants.{RoundRobin as RoundRobinKind, LeastRecent as LeastRecentKind, Age as AgeKind}
 use Rattle.mr_arb.specs.declared.turn.Turn.{Turn}
 use Rattle.mr_arb.specs.declared.turn.Turn.TheVariants.{RoundRobin, LeastRecent, Age}
 
--- An output's turn. Round robin keeps the slot to begin with, least recently used the place of each slot in its list of slots.
--- The least rank wins: the first in cyclic order of slots, the first of the list, or the least born and then the lowest slot.
+-- An output's turn. Round robin keeps the slot to begin with, least recently used the list of all slots in the order of their last
+-- use. The least rank wins: the first in cyclic order of slots, the first of the list, or the least born and then the lowest slot.
 abbrev pub rank : ℕ → Turn → Request → ℕ
 rank slots (RoundRobin first) q = if nat_le first q.slot then q.slot - first else q.slot + slots - first
-rank slots (LeastRecent places) q = slice_index places q.slot
+rank slots (LeastRecent order) q = place_of order q.slot
 rank slots Age q = q.born * slots + q.slot
 
 -- the first request of least rank
@@ -26,14 +27,10 @@ least f qs = fold (better f) None qs
 abbrev pub winner : ℕ → ℕ → Turn → List Request → Option Request
 winner slots output turn qs = least (rank slots turn) (filter (λ q. q.output == output) qs)
 
--- a place in the list after the slot at a place has moved to the end
-abbrev pub moved : ℕ → ℕ → ℕ → ℕ
-moved at last place = if place == at then last else (if nat_lt at place then place - 1 else place)
-
 -- the turn after a slot was granted
 abbrev pub passed : ℕ → Turn → ℕ → Turn
 passed slots (RoundRobin first) slot = RoundRobin (if slot + 1 == slots then 0 else slot + 1)
-passed slots (LeastRecent places) slot = LeastRecent (map (moved (slice_index places slot) (slots - 1)) places)
+passed slots (LeastRecent order) slot = LeastRecent (to_end order slot)
 passed slots Age slot = Age
 
 abbrev pub turn_after : ℕ → Turn → Option Request → Turn
@@ -70,7 +67,7 @@ picks slots output (turn ∷ turns) qs =
 -- a turn of an arbiter with so many slots
 abbrev pub Fits : ℕ → Turn → Type 0
 Fits slots (RoundRobin first) = first < slots
-Fits slots (LeastRecent places) = length places ≡ slots
+Fits slots (LeastRecent order) = IsOrder slots order
 Fits slots Age = Unit {0}
 
 abbrev pub EachFits : ℕ → List Turn → Type 0

@@ -1,1 +1,3 @@
+pub mod Slots
 pub mod Arbitrating
+pub mod Uses

@@ -6,11 +6,13 @@ ghost use Rattle.std.specs.Prelude.{◌≡◌, ◌<◌, ◌≤◌, ◌==◌, ◌
 ghost use Rattle.std.specs.Option.{ForSome};
 ghost use Rattle.mr_arb.specs.Arbitrating.{Fits, EachFits, picks, rank, better, least, winner, free, marked, grant_of, turn_of};
 
+mod order;
 mod turn;
 
+pub use order::Order;
 use std::alloc::{AllocError, Global};
 use std::marker::Model;
-pub use turn::{Places, Turn};
+pub use turn::Turn;
 
 /// How an output chooses among requests.
 #[derive(Clone, Copy, Debug, PartialEq, Eq)]
@@ -80,6 +82,28 @@ impl Arbiter {
             turns,
             granted,
         })
+    }
+
+    /// Arbiters that go on from these turns, one per output. It fails only where no memory is left.
+    pub fn of_turns(alloc: Global, slots: u32, turns: Vec<Turn>) -> Result<Arbiter, AllocError>
+        requires few { slots ≤ 4096 }
+        requires outputs { length turns.items < 2 ^ 16 }
+        requires fit { EachFits slots turns.items }
+        ensures { IfOk result (λ a. a ≡ record { slots = slots; turns = turns.items }) }
+    {
+        let granted = Vec::from_elem(alloc, false, slots as usize)?;
+        Ok(Arbiter {
+            slots,
+            turns,
+            granted,
+        })
+    }
+
+    /// The turn of each output.
+    pub fn turns(&self) -> &[Turn]
+        ensures { result.now ≡ self.now.turns }
+    {
+        &self.turns
     }
 
     /// Grants each output, in ascending order, the slot of one of its requests or none, and no input more than one slot. `grants` then
@@ -157,6 +181,19 @@ fn slot_of(winner: Option<Request>) -> u32
     }
 }
 
+// Of the best request so far and a next one the one that wins.
+fn preferred(turn: &Turn, slots: u32, best: Option<Request>, request: Request) -> Request
+    requires turn { Fits slots turn.now }
+    requires slot { request.slot < slots }
+    requires best { ForSome best (λ b. b.slot < slots) }
+    ensures { Some result ≡ better (rank slots turn.now) best request }
+{
+    match best {
+        Some(other) if !turn.prefers(slots, &request, &other) => other,
+        _ => request,
+    }
+}
+
 // The request that wins an output, among those of inputs that weren't granted.
 #[tactic(auto, using(crate::proofs::Picking::winner_more, crate::proofs::Picking::winner_skip))]
 fn winner_of(
@@ -172,18 +209,9 @@ fn winner_of(
     ensures { result ≡ winner slots output turn.now (free granted.now requests.now) }
 {
     let mut best = None;
-    let mut lowest = 0;
     for request in requests {
         if !granted[request.input as usize] && request.output == output {
-            let rank = turn.rank_of(slots, request);
-            let wins = match best {
-                None => true,
-                Some(_) => rank < lowest,
-            };
-            if wins {
-                best = Some(*request);
-                lowest = rank;
-            }
+            best = Some(preferred(turn, slots, best, *request));
         }
     }
     best

@@ -1,90 +1,50 @@
 //! Whose turn it is at an output.
 
-ghost use Rattle.std.specs.Prelude.{◌≡◌, ◌<◌, ◌≤◌, ◌+◌, ◌-◌, ◌*◌, map, length, slice_index, IfOk};
-ghost use Rattle.std.specs.List.{range_with_len};
+ghost use Rattle.std.specs.Prelude.{◌≡◌, ◌<◌, ◌≤◌, ◌+◌, ◌-◌, ◌*◌, nat_lt, nat_le, if◌then◌else◌, IfOk};
 ghost use Rattle.std.specs.Option.{ForSome};
-ghost use Rattle.mr_arb.specs.Arbitrating.{rank, moved, turn_after, turn_of, Fits};
+ghost use Rattle.mr_arb.specs.Arbitrating.{rank, turn_after, turn_of, Fits};
 
-use crate::{ArbKind, Request};
+use crate::{ArbKind, Order, Request};
 use std::alloc::{AllocError, Global};
-use std::marker::Model;
-
-/// The place of each slot in a list of all slots. Contracts see it as the list of these places.
-#[derive(Drop)]
-pub struct Places {
-    places: Vec<u32>,
-}
-
-impl Model for Places {
-    ghost use Rattle.std.specs.Prelude.{List, ℕ};
-
-    ghost Value = { List ℕ };
-
-    ghost view = { λ p. p.places.items };
-}
-
-impl Places {
-    /// The list in ascending order.
-    #[tactic(auto, using(crate::proofs::Picking::range_more))]
-    fn ascending(alloc: Global, slots: u32) -> Result<Places, AllocError>
-        ensures { IfOk result (λ p. p ≡ range_with_len 0 slots) }
-    {
-        let mut places = Vec::with_capacity(alloc, slots as usize)?;
-        for slot in 0..slots {
-            places.push(slot)?;
-        }
-        Ok(Places { places })
-    }
-
-    /// Moves the slot to the end of the list.
-    #[tactic(auto, using(crate::proofs::Picking::map_step))]
-    fn move_to_end(&mut self, slots: u32, slot: u32)
-        requires whole { length self.old ≡ slots }
-        requires inside { slot < slots }
-        ensures { self.new ≡ map (moved (slice_index self.old slot) (slots - 1)) self.old }
-    {
-        let at = self.places[slot as usize];
-        let last = slots - 1;
-        for place in self.places.iter_mut() {
-            if *place == at {
-                *place = last;
-            } else if *place > at {
-                *place -= 1;
-            }
-        }
-    }
-}
 
 /// Whose turn it is at an output.
 #[derive(Drop)]
 pub enum Turn {
+    /// The slot to begin with.
     RoundRobin(u32),
-    LeastRecent(Places),
+    /// All slots in the order of their last use.
+    LeastRecent(Order),
+    /// Each packet by its age.
     Age,
 }
 
 impl Turn {
     /// The first turn: round robin begins with slot 0, and least recently used with the slots in ascending order.
     pub(crate) fn of_kind(alloc: Global, kind: ArbKind, slots: u32) -> Result<Turn, AllocError>
+        requires some { 1 ≤ slots }
+        requires few { slots ≤ 4096 }
         ensures { IfOk result (λ t. t ≡ turn_of kind slots) }
     {
         Ok(match kind {
             ArbKind::RoundRobin => Turn::RoundRobin(0),
-            ArbKind::LeastRecent => Turn::LeastRecent(Places::ascending(alloc, slots)?),
+            ArbKind::LeastRecent => Turn::LeastRecent(Order::ascending(alloc, slots)?),
             ArbKind::Age => Turn::Age,
         })
     }
 
-    pub(crate) fn rank_of(&self, slots: u32, request: &Request) -> u128
+    /// Whether a request wins over another.
+    pub(crate) fn prefers(&self, slots: u32, request: &Request, other: &Request) -> bool
         requires turn { Fits slots self.now }
         requires slot { request.now.slot < slots }
-        ensures { result ≡ rank slots self.now request.now }
+        requires other { other.now.slot < slots }
+        ensures { result ≡ nat_lt (rank slots self.now request.now) (rank slots self.now other.now) }
     {
         match self {
-            Turn::RoundRobin(first) if *first <= request.slot => (request.slot - *first) as u128,
-            Turn::RoundRobin(first) => (request.slot as u64 + slots as u64 - *first as u64) as u128,
-            Turn::LeastRecent(places) => places.places[request.slot as usize] as u128,
-            Turn::Age => request.born as u128 * slots as u128 + request.slot as u128,
+            Turn::RoundRobin(first) => {
+                distance(*first, slots, request.slot) < distance(*first, slots, other.slot)
+            }
+            Turn::LeastRecent(order) => order.is_before(request.slot, other.slot),
+            Turn::Age => age_of(slots, request) < age_of(slots, other),
         }
     }
 
@@ -102,8 +62,28 @@ impl Turn {
             Turn::RoundRobin(first) => {
                 *first = if slot + 1 == slots { 0 } else { slot + 1 };
             }
-            Turn::LeastRecent(places) => places.move_to_end(slots, slot),
+            Turn::LeastRecent(order) => order.move_to_end(slot),
             Turn::Age => {}
         }
     }
+}
+
+// How many slots behind the first one a slot comes in cyclic order.
+fn distance(first: u32, slots: u32, slot: u32) -> u64
+    requires first { first < slots }
+    requires slot { slot < slots }
+    ensures { result ≡ (if nat_le first slot then slot - first else slot + slots - first) }
+{
+    if first <= slot {
+        (slot - first) as u64
+    } else {
+        slot as u64 + slots as u64 - first as u64
+    }
+}
+
+// The rank of a request by its packet's age.
+fn age_of(slots: u32, request: &Request) -> u128
+    ensures { result ≡ request.now.born * slots + request.now.slot }
+{
+    request.born as u128 * slots as u128 + request.slot as u128
 }

@@ -29,3 +29,5 @@ pub struct Place {
 
 #[cfg(test)]
 mod tests;
+#[cfg(test)]
+mod walks;

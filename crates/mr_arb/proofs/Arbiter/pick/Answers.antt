@@ -3,7 +3,8 @@ use Rattle.std.specs.List.{All}
 use Rattle.mr_arb.specs.declared.Request.{Request}
 use Rattle.mr_arb.specs.declared.turn.Turn.{Turn}
 use Rattle.mr_arb.specs.Arbitrating.{Arbiting, free, picks}
-use Rattle.mr_arb.proofs.Picking.{arbiter_kept, put_back}
+use Rattle.mr_arb.proofs.Orders.{put_back}
+use Rattle.mr_arb.proofs.Picking.{arbiter_kept}
 use Rattle.mr_arb.proofs.Arbiter.pick.Goals as goal
 
 pub invariant_of-self : goal.invariant_of-self

@@ -1,6 +1,6 @@
 use Rattle.std.proofs.Common.{◌≡◌}
 use Rattle.std.specs.List.{range_with_len}
-use Rattle.mr_arb.proofs.turn.Places.ascending.Given as goal
+use Rattle.mr_arb.proofs.order.Order.ascending.Given as goal
 
 abbrev pub invariant-loop-slot : goal.invariant-loop-slot
-invariant-loop-slot l = l.places.items ≡ range_with_len 0 l.slot
+invariant-loop-slot l = l.all.items ≡ range_with_len 0 l.slot
