@@ -1,4 +1,5 @@
 pub mod Kind
+pub mod Named
 pub mod World
 pub mod Index
 pub mod Gives

@@ -6,6 +6,7 @@ use Rattle.ss_model.specs.Order.{IsSorted, begins_before}
 use Rattle.ss_model.specs.Wiring.{Wiring, WiringFits, told}
 use Rattle.ss_model.specs.Step.{State, step}
 use Rattle.ss_element.specs.Kind.{Kind, ActionsFit}
+use Rattle.ss_element.specs.Named.{ActionsNamed}
 
 -- an event tells one of the components something
 pub record Reaching {S L : Type 0} (w : Wiring) (xs : List S) (e : Event L) : Type 0 where
@@ -39,6 +40,8 @@ module _ {S L : Type 0} (kind : Kind S L) where
     -- the next event may be handled, and the actions are within what a run can add
     pub meets : (w : Wiring) (now : ℕ) (s : State S L) (e : Event L) (c : ℕ) (why : Cause L) (x : S) → Safe w now s → IsNext w s e c why x → kind.Meets x e.key.time why
     pub acts : (w : Wiring) (now : ℕ) (s : State S L) (e : Event L) (c : ℕ) (why : Cause L) (x : S) → Safe w now s → IsNext w s e c why x → ActionsFit (kind.handled x e.key.time why).actions
+    -- and name only what the wires have for the component
+    pub named : (w : Wiring) (now : ℕ) (s : State S L) (e : Event L) (c : ℕ) (why : Cause L) (x : S) → Safe w now s → IsNext w s e c why x → ActionsNamed w c (kind.handled x e.key.time why).actions
     -- a step is safe
     pub steps : (w : Wiring) (now : ℕ) (s : State S L) (e : Event L) (rest : List (Event L)) → Safe w now s → s.pending ≡ e ∷ rest → e.key.time < 2 ^ 62 → Safe w e.key.time (step kind.handled w s)
     -- where nothing is pending at time 0 any more, each component's start event was handled

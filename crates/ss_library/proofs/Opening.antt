@@ -17,22 +17,23 @@ use Rattle.ss_safe.specs.Worlds.{opening_safe}
 use Rattle.ss_graph.specs.declared.graph.Graph.{Graph}
 use Rattle.ss_graph.specs.declared.graph.Join.{Join}
 use Rattle.ss_graph.specs.declared.graph.Part.{Part}
-use Rattle.ss_graph.specs.Fit.{IsFit, IsSoundLink}
+use Rattle.ss_graph.specs.Fit.{IsFit, IsSoundLink, ends_of}
 use Rattle.ss_library.specs.declared.table.KindName.{KindName}
 use Rattle.ss_library.specs.declared.table.KindName.TheVariants as kind
 use Rattle.ss_library.specs.declared.kinds.Any.{Any}
 use Rattle.ss_library.specs.declared.kinds.Any.TheVariants as any
 use Rattle.ss_library.specs.declared.fault.MakeFault.{MakeFault}
 use Rattle.ss_library.specs.declared.fault.MakeFault.TheVariants as fault
-use Rattle.ss_graph.specs.Checks.{Check, check, at, first_fault, or_else}
+use Rattle.ss_graph.specs.Checks.{Check, check, at, first_fault}
 use Rattle.ss_graph.proofs.Judging.{first_fault_append}
 use Rattle.ss_element.specs.Stored.{bins_form, stat_form}
 use Rattle.ss_graph.specs.declared.graph.StatAsk.{StatAsk}
 use Rattle.ss_library.specs.Stats.{empty_by, empty_stats, StatsFit}
 use Rattle.ss_library.specs.Kinds.{any_kind, any_allowed, any_safe, any_ticks, any_fits, AnyHolds, AnyFirst}
 use Rattle.ss_library.specs.Tables.{kind_named, param_value, clock_row, count_row}
-use Rattle.ss_library.specs.Make.{each_numbered, lines_of, inner_by, inner_of, element_by, element_of, wiring_of, model_of, joined, joined_from, params_of, row_check, kind_checks, stats_checks, component_checks, components_checks, value}
+use Rattle.ss_library.specs.Make.{each_numbered, lines_of, inner_by, inner_of, element_by, element_of, wiring_of, model_of, joined, joined_from, params_of, row_check, kind_checks, stats_checks, component_checks, components_checks, links_checks, all_ports_checks, value}
 use Rattle.ss_library.proofs.Values.{count_fits, delay_fits, clock_fits}
+use Rattle.ss_library.proofs.Naming.{holds_by, no_fault, all_named}
 
 links_fit : (ps : List Part) (n : ℕ) (js : List Join) → All (λ j. IsSoundLink ps j) js → LinksFit (each_numbered (lines_of ps) n js)
 unfolding each_numbered
@@ -40,15 +41,6 @@ links_fit ps n [] h = tt
 links_fit ps n (j ∷ js) h =
     let f : IsSoundLink ps j = All-head (IsSoundLink ps) j js h in
     (f.onward.least, f.onward.most, (f.back.least, f.back.most, links_fit ps (n + 1) js (All-tail (IsSoundLink ps) j js h)))
-
--- a check that holds, where none fails
-holds_by : (t : Bool) (o : Option MakeFault) (f : MakeFault) → cond t o (Some f) ≡ None → t ≡ true
-holds_by true o f h = refl
-holds_by false o f h = absurd (cc)
-
-no_fault : (o p : Option MakeFault) → or_else o p ≡ None → (o ≡ None) × (p ≡ None)
-no_fault None p h = (refl, h)
-no_fault (Some f) p h = absurd (cc)
 
 -- the checks of component i, where its kind is this one
 abbrev checks_by : ℕ → Part → Option KindName → List (Check MakeFault)
@@ -237,9 +229,9 @@ unfolding each_numbered
 inners_end n count [] e = λ m l g. absurd (none_some g)
 inners_end n count (p ∷ ps) e = inner_end n p (kind_named p.kind) (each_numbered inner_of (n + 1) ps) count (omega arith) (inners_end (n + 1) count ps (omega (arith, e)))
 
-model_opens : (g : Graph) → IsFit g → first_fault (components_checks g.components) ≡ None → Opens any_kind any_allowed (wiring_of g) (model_of g).elements
+model_opens : (g : Graph) → IsFit g → first_fault (components_checks g.components) ≡ None → first_fault (links_checks g.components g.links) ≡ None → first_fault (all_ports_checks (ends_of g.links) g.components) ≡ None → Opens any_kind any_allowed (wiring_of g) (model_of g).elements
 unfolding components_checks
-model_opens g h c = record {
+model_opens g h c links ports = record {
   stands = record {
     wires = record {
       fits = record { links = links_fit g.components 0 g.links h.links; inner = inner_fit 0 g.components c };
@@ -248,6 +240,7 @@ model_opens g h c = record {
       apart = clocks_apart g.components;
     };
     agrees = λ n l x y there hx hy load at may. may;
+    named = all_named g c links ports;
     holds = each_made AnyHolds (λ p. element_holds p (kind_named p.kind)) joined_holds (wiring_of g) 0 g.components;
     paired = no_pairs any_kind (λ x port. refl) (wiring_of g) (model_of g).elements;
   };
@@ -257,5 +250,5 @@ model_opens g h c = record {
   credits = no_credits any_kind (λ x port. refl) (wiring_of g) (model_of g).elements;
 }
 
-pub model_safe : (g : Graph) → IsFit g → first_fault (components_checks g.components) ≡ None → any_safe (wiring_of g) 0 (opening (model_of g).elements)
-model_safe g h c = opening_safe any_kind any_allowed (wiring_of g) (model_of g).elements (model_opens g h c)
+pub model_safe : (g : Graph) → IsFit g → first_fault (components_checks g.components) ≡ None → first_fault (links_checks g.components g.links) ≡ None → first_fault (all_ports_checks (ends_of g.links) g.components) ≡ None → any_safe (wiring_of g) 0 (opening (model_of g).elements)
+model_safe g h c links ports = opening_safe any_kind any_allowed (wiring_of g) (model_of g).elements (model_opens g h c links ports)

@@ -223,6 +223,23 @@ AnyAlike (any.Ticker t) (any.Pinger q) = ⊥
 AnyAlike (any.Ticker t) (any.Echo f) = ⊥
 AnyAlike (any.Ticker t) (any.Ticker u) = TickerAlike t u
 
+-- the port out of which an element sends, and a ticker only where a line leads from it
+abbrev pub SendsOut : Any → ℕ → Type 0
+SendsOut (any.Pinger p) port = port ≡ 0
+SendsOut (any.Echo e) port = port ≡ 0
+SendsOut (any.Ticker t) port = (port ≡ 0) × (t.linked ≡ true)
+
+-- an echo alone has a self line, and a ticker alone a clock
+abbrev pub HasLine : Any → ℕ → Type 0
+HasLine (any.Pinger p) line = ⊥
+HasLine (any.Echo e) line = line ≡ 0
+HasLine (any.Ticker t) line = ⊥
+
+abbrev pub HasClock : Any → ℕ → Type 0
+HasClock (any.Pinger p) clock = ⊥
+HasClock (any.Echo e) clock = ⊥
+HasClock (any.Ticker t) clock = clock ≡ 0
+
 -- a number of a core kind is below 2^32
 abbrev pub load_fits : Load → Bool
 load_fits (load.Core n) = nat_lt n (2 ^ 32)
@@ -254,9 +271,16 @@ any_kind = record {
   Alike = AnyAlike;
 }
 
--- what may be of elements: each sends such numbers
+-- what may be of elements: each sends such numbers, and out of its port alone
 abbrev pub any_allowed : Allowed Any Load
-any_allowed = record { holds = AnyHolds; first = AnyFirst; gives = λ x port y at. load_fits y ≡ true }
+any_allowed = record {
+  holds = AnyHolds;
+  first = AnyFirst;
+  gives = λ x port y at. load_fits y ≡ true;
+  names_port = SendsOut;
+  names_line = HasLine;
+  names_clock = HasClock;
+}
 
 -- the states that a run can go on from at a time
 abbrev pub any_safe : Wiring → ℕ → State Any Load → Type 0

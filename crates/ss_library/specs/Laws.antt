@@ -16,7 +16,7 @@ use Rattle.ss_element.specs.Saving.{SavingLaws, state_form, CauseIsOf}
 use Rattle.ss_element.specs.Stored.{field, stats_form}
 use Rattle.ss_element.proofs.Stored.{field_form, stats_are_form}
 use Rattle.ss_element.specs.declared.fault.RestoreFault.{RestoreFault}
-use Rattle.ss_safe.specs.Laws.{MayTell, MayHear, SendsFit, ClockKeeps, IsDue, turns, Keeps, KindLaws, KindSaves}
+use Rattle.ss_safe.specs.Laws.{MayTell, MayHear, SendsFit, NamesAll, NamesAsMuch, ClockKeeps, IsDue, turns, Keeps, KindLaws, KindSaves}
 use Rattle.ss_safe.specs.Kept.Flow.{no_flow, no_room}
 use Rattle.ss_safe.specs.Worlds.{world_of, saved_of}
 use Rattle.ss_library.specs.declared.kinds.Load.{Load}
@@ -56,6 +56,25 @@ any_through (any.Ticker t) (any.Ticker u) (any.Pinger q) a b = absurd b
 any_through (any.Ticker t) (any.Ticker u) (any.Echo f) a b = absurd b
 any_through (any.Ticker t) (any.Ticker u) (any.Ticker v) a b = record { same = b.same ∙ ap (λ y. with_ticker y v.begun v.ticks v.stats) a.same; stats = b.stats ∙ a.stats }
 
+-- elements that are alike may name the same
+none_other : {x y : Any} → ⊥ → NamesAsMuch any_kind any_allowed x y
+none_other h = absurd h
+
+names_alike : (x y : Any) → AnyAlike x y → NamesAsMuch any_kind any_allowed x y
+names_alike (any.Pinger p) (any.Pinger q) a = record { ports = λ n may. may; lines = λ i may. may; clocks = λ i may. may }
+names_alike (any.Pinger p) (any.Echo f) a = none_other a
+names_alike (any.Pinger p) (any.Ticker u) a = none_other a
+names_alike (any.Echo e) (any.Pinger q) a = none_other a
+names_alike (any.Echo e) (any.Echo f) a = record { ports = λ n may. may; lines = λ i may. may; clocks = λ i may. may }
+names_alike (any.Echo e) (any.Ticker u) a = none_other a
+names_alike (any.Ticker t) (any.Pinger q) a = none_other a
+names_alike (any.Ticker t) (any.Echo f) a = none_other a
+names_alike (any.Ticker t) (any.Ticker u) a = record {
+  ports = λ n may. (may.0, sym (ap (λ y. y.linked) a.same) ∙ may.1);
+  lines = λ i may. may;
+  clocks = λ i may. may;
+}
+
 start_alike : (p : Pinger) (now : ℕ) (b : Bool) → PingerAlike p (cond {A = Reaction Pinger Load} b (record { state = thrown p 1 now; actions = sends 1 ∷ [] }) (still p)).state
 start_alike p now true = record { same = refl; stats = refl }
 start_alike p now false = record { same = refl; stats = refl }
@@ -86,6 +105,7 @@ record Kept (x : Any) (now : ℕ) (why : Cause Load) (r : Reaction Any Load) : T
   begun : any_begun r.state ≡ true
   acts : ActionsFit r.actions
   sends : SendsFit any_kind any_allowed x now r.actions
+  names : NamesAll any_kind any_allowed x r.actions
   clocks : (i : ℕ) → ClockKeeps why i (any_ticks x i) (turns i r.actions) (any_ticks r.state i)
 
 -- ---- the pinger
@@ -117,9 +137,10 @@ start_by p now true e h f =
       begun = refl;
       acts = (omega arith, tt);
       sends = (refl, tt);
+      names = (refl, tt);
       clocks = λ i. refl;
     }
-start_by p now false e h f = record { holds = h; fit = f; begun = refl; acts = tt; sends = tt; clocks = λ i. refl }
+start_by p now false e h f = record { holds = h; fit = f; begun = refl; acts = tt; sends = tt; names = tt; clocks = λ i. refl }
 
 returned_holds : (p : Pinger) (now : ℕ) → now < 2 ^ 62 → PingerHolds p → PingerHolds (returned p now)
 returned_holds p now early h = record {
@@ -142,6 +163,7 @@ back_by p port n now true e early h f =
       begun = refl;
       acts = (tt, (omega arith, tt));
       sends = (tt, (less_true (p.sent + 1) (2 ^ 32) (omega (arith, h.count)), tt));
+      names = (tt, (refl, tt));
       clocks = λ i. refl;
     }
 back_by p port n now false e early h f =
@@ -152,14 +174,15 @@ back_by p port n now false e early h f =
       begun = refl;
       acts = (tt, tt);
       sends = (tt, tt);
+      names = (tt, tt);
       clocks = λ i. refl;
     }
 
 pinger_keeps : (p : Pinger) (now : ℕ) (why : Cause Load) → now < 2 ^ 62 → PingerHolds p → pinger_fits p (now + 1) ≡ true → Kept (any.Pinger p) now why (any_handled (any.Pinger p) now why)
 pinger_keeps p now cause.Start early h f = start_by p now (nat_lt 0 p.count) refl h f
 pinger_keeps p now (cause.Link port (load.Core n)) early h f = back_by p port n now (nat_lt p.sent p.count) refl early h f
-pinger_keeps p now (cause.Own line y) early h f = record { holds = h; fit = f; begun = refl; acts = tt; sends = tt; clocks = λ i. refl }
-pinger_keeps p now (cause.Tick clock) early h f = record { holds = h; fit = f; begun = refl; acts = tt; sends = tt; clocks = λ i. refl }
+pinger_keeps p now (cause.Own line y) early h f = record { holds = h; fit = f; begun = refl; acts = tt; sends = tt; names = tt; clocks = λ i. refl }
+pinger_keeps p now (cause.Tick clock) early h f = record { holds = h; fit = f; begun = refl; acts = tt; sends = tt; names = tt; clocks = λ i. refl }
 
 -- once a pinger is done it stays so
 done_again : (got count : ℕ) → got == count ≡ true → min (got + 1) count == count ≡ true
@@ -194,14 +217,14 @@ heard_holds e n small h =
     }
 
 echo_by : (e : Echo) (port n now : ℕ) (b : Bool) → nat_eq e.delay 0 ≡ b → EchoHolds e → nat_lt n (2 ^ 32) ≡ true → Kept (any.Echo e) now (cause.Link port (load.Core n)) (record { state = any.Echo (echo_heard e n); actions = cond b (sends n) (action.SelfSend 0 e.delay (load.Core n)) ∷ [] })
-echo_by e port n now true d h m = record { holds = heard_holds e n m h; fit = refl; begun = refl; acts = (omega arith, tt); sends = (m, tt); clocks = λ i. refl }
-echo_by e port n now false d h m = record { holds = heard_holds e n m h; fit = refl; begun = refl; acts = ((grind (arith, nat_tests), h.delay), tt); sends = (m, tt); clocks = λ i. refl }
+echo_by e port n now true d h m = record { holds = heard_holds e n m h; fit = refl; begun = refl; acts = (omega arith, tt); sends = (m, tt); names = (refl, tt); clocks = λ i. refl }
+echo_by e port n now false d h m = record { holds = heard_holds e n m h; fit = refl; begun = refl; acts = ((grind (arith, nat_tests), h.delay), tt); sends = (m, tt); names = (refl, tt); clocks = λ i. refl }
 
 echo_keeps : (e : Echo) (now : ℕ) (why : Cause Load) → EchoHolds e → MayHear any_kind (any.Echo e) (now + 1) why → Kept (any.Echo e) now why (any_handled (any.Echo e) now why)
-echo_keeps e now cause.Start h m = record { holds = h; fit = refl; begun = refl; acts = tt; sends = tt; clocks = λ i. refl }
+echo_keeps e now cause.Start h m = record { holds = h; fit = refl; begun = refl; acts = tt; sends = tt; names = tt; clocks = λ i. refl }
 echo_keeps e now (cause.Link port (load.Core n)) h m = echo_by e port n now (nat_eq e.delay 0) refl h m
-echo_keeps e now (cause.Own line (load.Core n)) h m = record { holds = h; fit = refl; begun = refl; acts = (omega arith, tt); sends = (m, tt); clocks = λ i. refl }
-echo_keeps e now (cause.Tick clock) h m = record { holds = h; fit = refl; begun = refl; acts = tt; sends = tt; clocks = λ i. refl }
+echo_keeps e now (cause.Own line (load.Core n)) h m = record { holds = h; fit = refl; begun = refl; acts = (omega arith, tt); sends = (m, tt); names = (refl, tt); clocks = λ i. refl }
+echo_keeps e now (cause.Tick clock) h m = record { holds = h; fit = refl; begun = refl; acts = tt; sends = tt; names = tt; clocks = λ i. refl }
 
 -- ---- the ticker
 
@@ -234,8 +257,8 @@ other_way i = zero_by (nat_eq i 0) (nat_eq 0 i) refl refl
     zero_by false false e f = refl
 
 start_ticker : (t : Ticker) (now : ℕ) (b : Bool) → nat_lt 0 t.count ≡ b → TickerHolds t → ticker_fits t ≡ true → t.ticks ≡ 0 → ((i : ℕ) → ticker_on t i ≡ false) → Kept (any.Ticker t) now cause.Start (record { state = any.Ticker (record t { begun = true }); actions = cond b (action.ClockOn 0 ∷ []) [] })
-start_ticker t now true e h f z off = record { holds = record { count = h.count; place = h.place; stats = h.stats }; fit = f; begun = refl; acts = (tt, tt); sends = (tt, tt); clocks = λ i. turn_on cause.Start i (ticker_on t i) (nat_eq i 0) (nat_eq 0 i) (nat_lt t.ticks t.count) (off i) (other_way i) (grind (arith, nat_tests)) }
-start_ticker t now false e h f z off = record { holds = record { count = h.count; place = h.place; stats = h.stats }; fit = f; begun = refl; acts = tt; sends = tt; clocks = λ i. stay_off (ticker_on t i) (nat_eq i 0) (nat_lt t.ticks t.count) (off i) (grind (arith, nat_tests)) }
+start_ticker t now true e h f z off = record { holds = record { count = h.count; place = h.place; stats = h.stats }; fit = f; begun = refl; acts = (tt, tt); sends = (tt, tt); names = (refl, tt); clocks = λ i. turn_on cause.Start i (ticker_on t i) (nat_eq i 0) (nat_eq 0 i) (nat_lt t.ticks t.count) (off i) (other_way i) (grind (arith, nat_tests)) }
+start_ticker t now false e h f z off = record { holds = record { count = h.count; place = h.place; stats = h.stats }; fit = f; begun = refl; acts = tt; sends = tt; names = tt; clocks = λ i. stay_off (ticker_on t i) (nat_eq i 0) (nat_lt t.ticks t.count) (off i) (grind (arith, nat_tests)) }
 
 -- what is known where a tick comes
 all_three : (g a x : Bool) → (g && (a && x)) ≡ true → (g ≡ true) × (a ≡ true) × (x ≡ true)
@@ -259,14 +282,14 @@ raised_fits t = grind (arith, nat_tests)
 below_count : (t : Ticker) → TickerHolds t → nat_lt (raised t).ticks (2 ^ 32) ≡ true
 below_count t h = let c = h.count in grind (arith, nat_tests)
 
-tick_by : (t : Ticker) (now k : ℕ) (l d : Bool) → TickerHolds t → t.begun ≡ true → k ≡ 0 → t.ticks < t.count → (raised t).ticks == t.count ≡ d → Kept (any.Ticker t) now (cause.Tick k) (record { state = any.Ticker (raised t); actions = action.Print (tick_text t.name (raised t).ticks now) ∷ cond l (sends (raised t).ticks ∷ []) [] ++ cond d (action.ClockOff 0 ∷ []) [] })
-tick_by t now k true true f g z h e = record { holds = record { count = f.count; place = f.place; stats = f.stats }; fit = raised_fits t; begun = g; acts = (tt, (omega arith, (tt, tt))); sends = (tt, (below_count t f, (tt, tt))); clocks = λ i. off_at t k i g z h e }
-tick_by t now k true false f g z h e = record { holds = record { count = f.count; place = f.place; stats = f.stats }; fit = raised_fits t; begun = g; acts = (tt, (omega arith, tt)); sends = (tt, (below_count t f, tt)); clocks = λ i. on_at t i h e }
-tick_by t now k false true f g z h e = record { holds = record { count = f.count; place = f.place; stats = f.stats }; fit = raised_fits t; begun = g; acts = (tt, (tt, tt)); sends = (tt, (tt, tt)); clocks = λ i. off_at t k i g z h e }
-tick_by t now k false false f g z h e = record { holds = record { count = f.count; place = f.place; stats = f.stats }; fit = raised_fits t; begun = g; acts = (tt, tt); sends = (tt, tt); clocks = λ i. on_at t i h e }
+tick_by : (t : Ticker) (now k : ℕ) (l d : Bool) → TickerHolds t → t.begun ≡ true → k ≡ 0 → t.ticks < t.count → (raised t).ticks == t.count ≡ d → t.linked ≡ l → Kept (any.Ticker t) now (cause.Tick k) (record { state = any.Ticker (raised t); actions = action.Print (tick_text t.name (raised t).ticks now) ∷ cond l (sends (raised t).ticks ∷ []) [] ++ cond d (action.ClockOff 0 ∷ []) [] })
+tick_by t now k true true f g z h e u = record { holds = record { count = f.count; place = f.place; stats = f.stats }; fit = raised_fits t; begun = g; acts = (tt, (omega arith, (tt, tt))); sends = (tt, (below_count t f, (tt, tt))); names = (tt, ((refl, u), (refl, tt))); clocks = λ i. off_at t k i g z h e }
+tick_by t now k true false f g z h e u = record { holds = record { count = f.count; place = f.place; stats = f.stats }; fit = raised_fits t; begun = g; acts = (tt, (omega arith, tt)); sends = (tt, (below_count t f, tt)); names = (tt, ((refl, u), tt)); clocks = λ i. on_at t i h e }
+tick_by t now k false true f g z h e u = record { holds = record { count = f.count; place = f.place; stats = f.stats }; fit = raised_fits t; begun = g; acts = (tt, (tt, tt)); sends = (tt, (tt, tt)); names = (tt, (refl, tt)); clocks = λ i. off_at t k i g z h e }
+tick_by t now k false false f g z h e u = record { holds = record { count = f.count; place = f.place; stats = f.stats }; fit = raised_fits t; begun = g; acts = (tt, tt); sends = (tt, tt); names = (tt, tt); clocks = λ i. on_at t i h e }
 
 due_tick : (t : Ticker) (now k : ℕ) → TickerHolds t → (t.begun ≡ true) × (nat_eq k 0 ≡ true) × (nat_lt t.ticks t.count ≡ true) → Kept (any.Ticker t) now (cause.Tick k) (any_handled (any.Ticker t) now (cause.Tick k))
-due_tick t now k f h = tick_by t now k t.linked ((raised t).ticks == t.count) f h.0 (let e = h.1 in grind (arith, nat_tests)) (let e = h.2 in grind (arith, nat_tests)) refl
+due_tick t now k f h = tick_by t now k t.linked ((raised t).ticks == t.count) f h.0 (let e = h.1 in grind (arith, nat_tests)) (let e = h.2 in grind (arith, nat_tests)) refl refl
 
 events_hold : (t : Ticker) (n : ℕ) → nat_lt n (2 ^ 32) ≡ true → TickerHolds t → TickerHolds (ticker_heard t n)
 events_hold t n small h =
@@ -279,8 +302,8 @@ events_hold t n small h =
 
 ticker_keeps : (t : Ticker) (now : ℕ) (why : Cause Load) → TickerHolds t → ticker_fits t ≡ true → MayHear any_kind (any.Ticker t) (now + 1) why → IsDue any_kind any_allowed (any.Ticker t) now why → Kept (any.Ticker t) now why (any_handled (any.Ticker t) now why)
 ticker_keeps t now cause.Start h f m due = start_ticker t now (nat_lt 0 t.count) refl h f due.1.0 due.2
-ticker_keeps t now (cause.Link port (load.Core n)) h f m due = record { holds = events_hold t n m h; fit = f; begun = due; acts = (tt, tt); sends = (tt, tt); clocks = λ i. refl }
-ticker_keeps t now (cause.Own line y) h f m due = record { holds = h; fit = f; begun = due; acts = tt; sends = tt; clocks = λ i. refl }
+ticker_keeps t now (cause.Link port (load.Core n)) h f m due = record { holds = events_hold t n m h; fit = f; begun = due; acts = (tt, tt); sends = (tt, tt); names = (tt, tt); clocks = λ i. refl }
+ticker_keeps t now (cause.Own line y) h f m due = record { holds = h; fit = f; begun = due; acts = tt; sends = tt; names = tt; clocks = λ i. refl }
 ticker_keeps t now (cause.Tick k) h f m due = let a = all_three t.begun (nat_eq k 0) (nat_lt t.ticks t.count) due.1 in due_tick t now k h (due.0, a.1, a.2)
 
 ticker_done_stays : (t : Ticker) (now : ℕ) (why : Cause Load) → ticker_done t ≡ true → ticker_done (ticker_handled t now why).state ≡ true
@@ -326,6 +349,7 @@ any_keeps x now why may =
       alike = any_handled_alike x now why;
       acts = k.acts;
       sends = k.sends;
+      names = k.names;
       flow = no_flow any_kind (λ y port. refl) x why (any_handled x now why);
       clocks = k.clocks;
     }
@@ -348,6 +372,7 @@ any_laws = record {
   same_room = λ x y alike. no_room any_kind (λ z port. refl) x y;
   hears_alike = λ x y why at alike fit. fit;
   gives_alike = λ x y p load at alike may. may;
+  names_alike = names_alike;
   meets = λ x now why may. (may.holds, heard_fits x (now + 1) why may.heard);
   keeps = any_keeps;
   primary_stays = any_primary_stays;

@@ -21,6 +21,7 @@ use Rattle.ss_safe.specs.Sound.{Timed, Sound, IsSaved, AllAlike, Restored, IsRea
 use Rattle.ss_safe.specs.Kept.Found.{some_same, none_some, get_below, get_some, apart_numbers}
 use Rattle.ss_safe.specs.Kept.Times.{clock_period, next_mod}
 use Rattle.ss_safe.specs.Kept.Starts.{no_start}
+use Rattle.ss_safe.specs.Kept.Loads.{named_as}
 use Rattle.ss_safe.specs.Worlds.{until_safe, until_alike, none_sooner_than, all_begun}
 
 -- ---- events by their places
@@ -167,6 +168,7 @@ module _ {S L : Type 0} (kind : Kind S L) (allowed : Allowed S L) (saving : Savi
           let a = was l.sender x gx in
           let b = was l.receiver y gy in
           laws.hears_alike b.first y (cause.Link l.in_port load) at b.alike (made.agrees n l a.first b.first link a.there b.there load at (laws.gives_alike a.first x l.out_port load at a.alike may));
+      named = λ c x g. let a = was c x g in named_as kind allowed laws w c a.first x (laws.names_alike a.first x a.alike) (made.named c a.first a.there);
       holds = λ c x g. let a = was c x g in saves.read_holds a.first x a.is_of (made.holds c a.first a.there);
       paired = λ l ch link y is gy in_range.
           let b = was link.receiver y gy in
@@ -214,6 +216,7 @@ module _ {S L : Type 0} (kind : Kind S L) (allowed : Allowed S L) (saving : Savi
       early = early;
       wires = stands.wires;
       agrees = stands.agrees;
+      named = stands.named;
       holds = stands.holds;
       elements = sound.elements;
       sorted = read.sorted;

@@ -96,6 +96,10 @@ pub record Allowed (S L : Type 0) : Type 1 where
   pub first : S → Type 0
   -- what an element may send out of a port before a time
   pub gives : S → ℕ → L → ℕ → Type 0
+  -- out of which ports and on which self lines an element may send, and which clocks it may turn
+  pub names_port : S → ℕ → Type 0
+  pub names_line : S → ℕ → Type 0
+  pub names_clock : S → ℕ → Type 0
 
 -- what the actions turn a clock to, one after another
 abbrev pub turned_by : {L : Type 0} → ℕ → Action L → List Bool
@@ -153,6 +157,24 @@ module _ {S L : Type 0} (kind : Kind S L) (allowed : Allowed S L) where
   SendsFit x now [] = Unit {0}
   SendsFit x now (a ∷ acts) = SendFits x now a × SendsFit x now acts
 
+  -- an action names what the element may name
+  abbrev pub Names : S → Action L → Type 0
+  Names x (action.Send p extra y) = allowed.names_port x p
+  Names x (action.SelfSend i delay y) = allowed.names_line x i
+  Names x (action.ClockOn i) = allowed.names_clock x i
+  Names x (action.ClockOff i) = allowed.names_clock x i
+  Names x (action.Print text) = Unit {0}
+
+  abbrev pub NamesAll : S → List (Action L) → Type 0
+  NamesAll x [] = Unit {0}
+  NamesAll x (a ∷ acts) = Names x a × NamesAll x acts
+
+  -- the first element may name all that the second may
+  pub record NamesAsMuch (x y : S) : Type 0 where
+    pub ports : (p : ℕ) → allowed.names_port y p → allowed.names_port x p
+    pub lines : (i : ℕ) → allowed.names_line y i → allowed.names_line x i
+    pub clocks : (i : ℕ) → allowed.names_clock y i → allowed.names_clock x i
+
   -- what became of an element that was told what it may be told
   pub record Keeps (x : S) (now : ℕ) (why : Cause L) (r : Reaction S L) : Type 0 where
     pub holds : allowed.holds r.state
@@ -162,6 +184,7 @@ module _ {S L : Type 0} (kind : Kind S L) (allowed : Allowed S L) where
     -- its delays are within what a run can add, and its loads may be
     pub acts : ActionsFit r.actions
     pub sends : SendsFit x now r.actions
+    pub names : NamesAll x r.actions
     pub flow : FlowKeeps (meters_of kind) x why r
     pub clocks : (i : ℕ) → ClockKeeps why i (kind.ticks x i) (turns i r.actions) (kind.ticks r.state i)
 
@@ -170,10 +193,11 @@ module _ {S L : Type 0} (kind : Kind S L) (allowed : Allowed S L) where
     pub fits_later : (x : S) (at later : ℕ) → at ≤ later → later ≤ 2 ^ 62 → kind.fits x at ≡ true → kind.fits x later ≡ true
     pub loads_later : (x : S) (why : Cause L) (at later : ℕ) → at ≤ later → later ≤ 2 ^ 62 → kind.fits_load x why at ≡ true → kind.fits_load x why later ≡ true
     pub capacity_fits : (x : S) (p ch : ℕ) → allowed.holds x → ch < kind.channels x p → (kind.flow x p ch).capacity < 2 ^ 32
-    -- to elements that are alike the same may come, and each sends what the other may send
+    -- to elements that are alike the same may come, and each sends and names what the other may send and name
     pub same_room : (x y : S) → kind.Alike x y → SameRoom (meters_of kind) x y
     pub hears_alike : (x y : S) (why : Cause L) (at : ℕ) → kind.Alike x y → kind.fits_load x why at ≡ true → kind.fits_load y why at ≡ true
     pub gives_alike : (x y : S) (p : ℕ) (load : L) (at : ℕ) → kind.Alike x y → allowed.gives y p load at → allowed.gives x p load at
+    pub names_alike : (x y : S) → kind.Alike x y → NamesAsMuch x y
     -- an element may be told what it may, and keeps the laws
     pub meets : (x : S) (now : ℕ) (why : Cause L) → MayTell x now why → kind.Meets x now why
     pub keeps : (x : S) (now : ℕ) (why : Cause L) → MayTell x now why → Keeps x now why (kind.handled x now why)

@@ -28,6 +28,9 @@ module _ {S L : Type 0} where
     holds = λ x. Unit {0};
     first = λ x. Unit {0};
     gives = λ x p load at. ⊥;
+    names_port = λ x p. ⊥;
+    names_line = λ x i. ⊥;
+    names_clock = λ x i. ⊥;
   }
 
 module _ {S : Type 0} (L : Type 0) (stats : S → List Entry) where
@@ -59,6 +62,7 @@ module _ {S : Type 0} (L : Type 0) (stats : S → List Entry) where
     same_room = λ x y a. no_room quiet_kind no_channels x y;
     hears_alike = λ x y why at a heard. heard;
     gives_alike = λ x y p load at a g. absurd g;
+    names_alike = λ x y a. record { ports = λ p may. may; lines = λ i may. may; clocks = λ i may. may };
     meets = λ x now why may. tt;
     keeps = λ x now why may. record {
       holds = tt;
@@ -67,6 +71,7 @@ module _ {S : Type 0} (L : Type 0) (stats : S → List Entry) where
       alike = refl;
       acts = tt;
       sends = tt;
+      names = tt;
       flow = no_flow quiet_kind no_channels x why (record { state = x; actions = [] });
       clocks = λ i. refl;
     };

@@ -20,7 +20,7 @@ use Rattle.ss_model.specs.declared.LinkLine.{LinkLine}
 use Rattle.ss_model.specs.declared.InnerLine.{InnerLine}
 use Rattle.ss_model.specs.declared.InnerLine.TheVariants as inner
 use Rattle.ss_model.specs.Order.{IsSorted}
-use Rattle.ss_model.specs.Wiring.{Wiring, WiringFits, clock_from, link_at, inner_at, target, told}
+use Rattle.ss_model.specs.Wiring.{Wiring, WiringFits, clock_from, link_at, own_at, clock_at, inner_at, target, told}
 use Rattle.ss_model.specs.Step.{State}
 use Rattle.ss_element.specs.Kind.{Kind}
 use Rattle.ss_safe.specs.Laws.{Meters, meters_of, gate, packet_on, credit_on, Allowed, MayHear}
@@ -159,6 +159,15 @@ module _ {S L : Type 0} (kind : Kind S L) (allowed : Allowed S L) where
   abbrev pub Agrees : Wiring → List S → Type 0
   Agrees w xs = (n : ℕ) (l : LinkLine) (x y : S) → slice_get w.links n ≡ Some l → slice_get xs l.sender ≡ Some x → slice_get xs l.receiver ≡ Some y → (load : L) (at : ℕ) → allowed.gives x l.out_port load at → kind.fits_load y (cause.Link l.in_port load) at ≡ true
 
+  -- what each element may name, the wires have for it
+  pub record HasNamed (w : Wiring) (c : ℕ) (x : S) : Type 0 where
+    pub ports : (p : ℕ) → allowed.names_port x p → is_some (link_at w c p) ≡ true
+    pub lines : (i : ℕ) → allowed.names_line x i → is_some (own_at w c i) ≡ true
+    pub clocks : (i : ℕ) → allowed.names_clock x i → is_some (clock_at w c i) ≡ true
+
+  abbrev pub AllNamed : Wiring → List S → Type 0
+  AllNamed w xs = (c : ℕ) (x : S) → slice_get xs c ≡ Some x → HasNamed w c x
+
   -- what an event tells an element fits a time
   abbrev pub IsHeard : Wiring → List S → ℕ → Event L → Type 0
   IsHeard w xs at e = (c : ℕ) (why : Cause L) (x : S) → told w e ≡ Some (c, why) → slice_get xs c ≡ Some x → MayHear kind x at why
@@ -178,6 +187,7 @@ module _ {S L : Type 0} (kind : Kind S L) (allowed : Allowed S L) where
     pub early : now < 2 ^ 62
     pub wires : WiresHold w (length s.components)
     pub agrees : Agrees w s.components
+    pub named : AllNamed w s.components
     pub holds : AllHold s.components
     pub elements : AllFit (now + 1) s.components
     pub sorted : IsSorted s.pending
@@ -194,6 +204,7 @@ module _ {S L : Type 0} (kind : Kind S L) (allowed : Allowed S L) where
   pub record Stands (w : Wiring) (xs : List S) : Type 0 where
     pub wires : WiresHold w (length xs)
     pub agrees : Agrees w xs
+    pub named : AllNamed w xs
     pub holds : AllHold xs
     pub paired : Paired (meters_of kind) w xs
 

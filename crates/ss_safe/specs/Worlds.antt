@@ -25,7 +25,7 @@ use Rattle.ss_safe.specs.Kept.Times.{timely_later, made_timely, again_timely, ma
 use Rattle.ss_safe.specs.Kept.Clocks.{ticks_kept, is_tick}
 use Rattle.ss_safe.specs.Kept.Starts.{no_start, is_start, none_behind, starts_kept}
 use Rattle.ss_safe.specs.Kept.Flow.{has_room, paired_kept, balanced_kept}
-use Rattle.ss_safe.specs.Kept.Loads.{holds_kept, elements_kept, agrees_kept, heard_kept, made_heard, again_heard}
+use Rattle.ss_safe.specs.Kept.Loads.{holds_kept, elements_kept, named_kept, acts_named, agrees_kept, heard_kept, made_heard, again_heard}
 
 one_true : (b : Bool) (n : ℕ) → 1 + n ≡ one b → b ≡ true
 one_true true n h = refl
@@ -168,6 +168,7 @@ module _ {S L : Type 0} (kind : Kind S L) (allowed : Allowed S L) (laws : KindLa
             wires = subst (WiresHold w) same safe.wires;
             holds = holds_kept kind allowed laws w s.components c e.key.time why x r g keeps safe.holds;
             agrees = agrees_kept kind allowed laws w s.components c e.key.time why x r g keeps safe.agrees;
+            named = named_kept kind allowed laws w s.components c e.key.time why x r g keeps safe.named;
             elements = elements_kept kind allowed laws w s.components c e.key.time why x r g keeps fit_now;
             sorted = IsSorted-insert_all (again w c e.key.time why acts) (insert_all (made_all w c e.key.time acts) rest) (IsSorted-insert_all (made_all w c e.key.time acts) rest sorted.1);
             timely = each_news (IsTimely e.key.time) acts
@@ -222,6 +223,7 @@ module _ {S L : Type 0} (kind : Kind S L) (allowed : Allowed S L) (laws : KindLa
     early = early;
     wires = safe.wires;
     agrees = safe.agrees;
+    named = safe.named;
     holds = safe.holds;
     elements = λ c x g. laws.fits_later x (now + 1) (later + 1) (omega (arith, up)) (omega (arith, early)) (safe.elements c x g);
     sorted = safe.sorted;
@@ -305,6 +307,9 @@ module _ {S L : Type 0} (kind : Kind S L) (allowed : Allowed S L) (laws : KindLa
     reach = λ w now s safe. reaches w s.components s.pending safe.real;
     meets = λ w now s e c why x safe next. laws.meets x e.key.time why (may_tell w now s e next.rest safe next.pending next.early c why x next.told next.component);
     acts = λ w now s e c why x safe next. (laws.keeps x e.key.time why (may_tell w now s e next.rest safe next.pending next.early c why x next.told next.component)).acts;
+    named = λ w now s e c why x safe next.
+        let kept = laws.keeps x e.key.time why (may_tell w now s e next.rest safe next.pending next.early c why x next.told next.component) in
+        acts_named kind allowed laws w c x (safe.named c x next.component) (kind.handled x e.key.time why).actions kept.names;
     steps = λ w now s e rest safe is early. step_safe w now s e rest safe is early;
     begun = λ w now s c x safe b g. all_begun w now s c x safe b g;
     primary_stays = laws.primary_stays;
@@ -366,6 +371,7 @@ module _ {S L : Type 0} (kind : Kind S L) (allowed : Allowed S L) where
     early = omega arith;
     wires = opens.stands.wires;
     agrees = opens.stands.agrees;
+    named = opens.stands.named;
     holds = opens.stands.holds;
     elements = opens.elements;
     sorted = starts_sorted L 0 xs;

@@ -1,14 +1,17 @@
--- A step keeps that elements fit, that lines agree, and that what comes may come.
-use Rattle.std.proofs.Common.{◌≡◌, ℕ, ◌+◌, true, List, Some, sym, ap, ◌∙◌, subst}
+-- A step keeps that elements fit, that lines agree, that the wires have what is named, and that what comes may come.
+use Rattle.std.proofs.Common.{◌≡◌, ℕ, ◌+◌, true, List, [], ◌∷◌, Some, sym, ap, ◌∙◌, subst}
 use Rattle.std.specs.Prelude.{slice_get, slice_set}
 use Rattle.ss_model.specs.declared.Event.{Event}
 use Rattle.ss_model.specs.declared.Cause.{Cause}
 use Rattle.ss_model.specs.declared.Cause.TheVariants as cause
+use Rattle.ss_model.specs.declared.Action.{Action}
+use Rattle.ss_model.specs.declared.Action.TheVariants as action
 use Rattle.ss_model.specs.Wiring.{Wiring, told}
 use Rattle.ss_model.specs.Step.{Reaction, next_multiple}
 use Rattle.ss_element.specs.Kind.{Kind}
-use Rattle.ss_safe.specs.Laws.{Allowed, MayHear, SendFits, Keeps, KindLaws}
-use Rattle.ss_safe.specs.Safe.{AllFit, AllHold, Agrees, IsHeard}
+use Rattle.ss_element.specs.Named.{ActionNamed, ActionsNamed}
+use Rattle.ss_safe.specs.Laws.{Allowed, MayHear, SendFits, Names, NamesAll, NamesAsMuch, Keeps, KindLaws}
+use Rattle.ss_safe.specs.Safe.{AllFit, AllHold, Agrees, HasNamed, AllNamed, IsHeard}
 use Rattle.ss_safe.specs.Kept.Events.{Makes, arrival_event, tick_event}
 use Rattle.ss_safe.specs.Kept.Found.{some_same, some_pair, link_at_found, own_at_found, told_as, told_link, told_own}
 use Rattle.ss_safe.specs.Kept.Steps.{After, reacts, stays, after}
@@ -19,6 +22,25 @@ module _ {S L : Type 0} (kind : Kind S L) (allowed : Allowed S L) (laws : KindLa
   hear_alike x y (cause.Link p load) at a h = laws.hears_alike x y (cause.Link p load) at a h
   hear_alike x y (cause.Own i load) at a h = laws.hears_alike x y (cause.Own i load) at a h
   hear_alike x y (cause.Tick i) at a h = tt
+
+  -- the wires have what an element names, if they have what another does that may name as much
+  pub named_as : (w : Wiring) (c : ℕ) (x y : S) → NamesAsMuch kind allowed x y → HasNamed kind allowed w c x → HasNamed kind allowed w c y
+  named_as w c x y much has = record {
+    ports = λ p may. has.ports p (much.ports p may);
+    lines = λ i may. has.lines i (much.lines i may);
+    clocks = λ i may. has.clocks i (much.clocks i may);
+  }
+
+  pub acts_named : (w : Wiring) (c : ℕ) (x : S) → HasNamed kind allowed w c x → (acts : List (Action L)) → NamesAll kind allowed x acts → ActionsNamed w c acts
+  acts_named w c x has [] h = tt
+  acts_named w c x has (a ∷ acts) h = (act_named a h.0, acts_named w c x has acts h.1)
+    where
+      act_named : (a : Action L) → Names kind allowed x a → ActionNamed w c a
+      act_named (action.Send p extra y) may = has.ports p may
+      act_named (action.SelfSend i delay y) may = has.lines i may
+      act_named (action.ClockOn i) may = has.clocks i may
+      act_named (action.ClockOff i) may = has.clocks i may
+      act_named (action.Print text) may = tt
 
   -- component c reacted
   module _ (w : Wiring) (xs : List S) (c now : ℕ) (why : Cause L) (x : S) (r : Reaction S L) (g : slice_get xs c ≡ Some x) (keeps : Keeps kind allowed x now why r) where
@@ -54,6 +76,15 @@ module _ {S L : Type 0} (kind : Kind S L) (allowed : Allowed S L) (laws : KindLa
         by_component : After xs c r.state d z → kind.fits z (now + 1) ≡ true
         by_component (reacts same is_new) = subst (λ y. kind.fits y (now + 1) ≡ true) is_new keeps.fit
         by_component (stays other is_old) = fit d z is_old
+
+    pub named_kept : AllNamed kind allowed w xs → AllNamed kind allowed w (slice_set xs c r.state)
+    named_kept named d z h = by_component (after xs c x r.state d z g h)
+      where
+        by_component : After xs c r.state d z → HasNamed kind allowed w d z
+        by_component (reacts same is_new) =
+            let has : HasNamed kind allowed w d r.state = named_as w d x r.state (laws.names_alike x r.state keeps.alike) (named d x (ap (slice_get xs) (sym same) ∙ g)) in
+            subst (HasNamed kind allowed w d) is_new has
+        by_component (stays other is_old) = named d z is_old
 
     pub agrees_kept : Agrees kind allowed w xs → Agrees kind allowed w (slice_set xs c r.state)
     agrees_kept old n l y z link gy gz load at may =

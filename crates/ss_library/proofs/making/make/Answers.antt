@@ -15,7 +15,7 @@ pub returns-clause-safe : goal.returns-clause-safe
 returns-clause-safe c =
     let all : length c.join_all.new.elements ≡ c.in_ok-elements.elements.len = omega arith in
     let back = put_back c.add_inner.new.wires c.in_ok-elements.elements.len c.join_all.new.elements c.as_mut_slice.result.now c.in_ok-elements.elements.items c.join_all.ensures c.as_mut_slice.ensures.value all in
-    rw (back, c.in_ok-add_inner.ensures, c.in_ok-wires.ensures.1, c.in_ok-elements.ensures.1, c.as_slice-parts.ensures) (model_safe c.args.graph.now c.requires (rw c.as_slice-parts.ensures at c.in_ok-elements.ensures.0))
+    rw (back, c.in_ok-add_inner.ensures, c.in_ok-wires.ensures.1, c.in_ok-elements.ensures.1, c.as_slice-parts.ensures) (model_safe c.args.graph.now c.requires (rw c.as_slice-parts.ensures at c.in_ok-elements.ensures.0) c.in_ok-wires.ensures.0 c.in_ok-all_linked.ensures)
 
 pub returns-clause-judged : goal.returns-clause-judged
 unfolding make_checks
