@@ -38,37 +38,37 @@ part_within part_of parts h None = let a : part_of 0 < parts = h 0 in omega arit
 part_within part_of parts h (Some c) = h c
 
 module _ {S L : Type 0} (kind : Kind S L) (Safe : Wiring → ℕ → State S L → Type 0) (rests : element.World kind Safe) (w : Wiring) (d : Division) (s : State S L) (m : MayRun kind Safe w d s) where
-  abbrev V : World (List S) (List (ℕ × S)) Key (Event L) Line
+  abbrev pub V : World (List S) (List (ℕ × S)) Key (Event L) Line
   V = world kind.handled w d.part_of
 
-  abbrev C : Cutting
+  abbrev pub C : Cutting
   C = cutting d.look d.cuts
 
-  abbrev idle : List S → Bool
+  abbrev pub idle : List S → Bool
   idle = all_idle kind
 
-  abbrev start : Moment (List S) (Event L)
+  abbrev pub start : Moment (List S) (Event L)
   start = beginning kind w d s
 
-  abbrev SafeIn : List S → List (Event L) → Type 0
+  abbrev pub SafeIn : List S → List (Event L) → Type 0
   SafeIn = IsSafe Safe w
 
-  the_laws : Laws (world kind.handled w d.part_of) (IsSafe Safe w) d.look (2 ^ 62)
+  pub the_laws : Laws (world kind.handled w d.part_of) (IsSafe Safe w) d.look (2 ^ 62)
   the_laws = laws kind Safe rests w d.part_of d.look m.ahead
 
-  the_cuts : CuttingLaws (cutting d.look d.cuts) d.look (2 ^ 62)
+  pub the_cuts : CuttingLaws (cutting d.look d.cuts) d.look (2 ^ 62)
   the_cuts = cutting_laws d.cuts m.cuts d.look m.look m.stop
 
-  begins : Ready V SafeIn d.cuts.origin s.components s.pending
+  pub begins : Ready V SafeIn d.cuts.origin s.components s.pending
   begins = record { safe = m.safe; ordered = sorted_same kind.handled w d.part_of s.pending (rests.sorted w m.safe.now (record { components = s.components; pending = s.pending; last = m.safe.last }) m.safe.safe); none_before = m.begun }
 
-  ready : Ready V SafeIn 0 s.components s.pending
+  pub ready : Ready V SafeIn 0 s.components s.pending
   ready = bounds.from_less V SafeIn d.look (2 ^ 62) the_laws 0 d.cuts.origin s.components s.pending (omega arith) begins
 
-  from : (k : Key) → V.src k < d.parts
+  pub from : (k : Key) → V.src k < d.parts
   from k = part_within d.part_of d.parts m.within (sender w k)
 
-  to : (k : Key) → V.dst k < d.parts
+  pub to : (k : Key) → V.dst k < d.parts
   to k = part_within d.part_of d.parts m.within (receiver w k)
 
   -- ---- parts alone

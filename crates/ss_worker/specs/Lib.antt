@@ -3,3 +3,6 @@ pub mod Sorted
 pub mod Standing
 pub mod Reacting
 pub mod Batched
+pub mod Place
+pub mod Told
+pub mod Sound

@@ -4,19 +4,28 @@
 ghost use Rattle.std.specs.Prelude.{◌≡◌, ◌<◌, ◌≤◌, ◌^◌, ◌+◌, ℕ, Bool, List, [], ◌∷◌, ◌++◌, All, IfOk, OnOk, length, if◌then◌else◌, map, true, false, Some, None};
 ghost use Rattle.ss_model.specs.Order.{insert_all, next_time, begins_before};
 
+mod batch;
 mod elements;
+mod known;
 mod mail;
+mod making;
 mod out;
+mod stage;
+mod worker;
 
+pub use batch::Batch;
 use elements::Elements;
 use mail::{Mail, perform};
+pub use making::workers_of;
 use out::sort_out;
 use ss_element::{Acts, Element, Wires};
 use ss_model::{Event, Line};
 use ss_pending::Pending;
+pub use stage::{Stage, Window};
 use std::alloc::{AllocError, Global};
 use std::marker::Model;
 use std::mem;
+pub use worker::Worker;
 
 /// A part of a simulation: some of its components with their numbers, the events that these receive, those
 /// that it sent to other parts, and the lines that it printed.

@@ -1,0 +1,63 @@
+//! A run in parts, whose windows are joined: in each window all parts run up to its end, on several threads, and then
+//! exchange what they sent to each other.
+#![tactic(auto)]
+
+ghost use Rattle.std.specs.Prelude.{◌≡◌, ◌≤◌, None, OnOk, IfOk};
+ghost use Rattle.ss_run.specs.declared.RunSpec.{RunSpec};
+ghost use Rattle.ss_run.specs.Run.{IsFitting};
+ghost use Rattle.ss_worker.specs.Place.{AllStandAt};
+ghost use Rattle.ss_join.specs.declared.lead.LeadFault.TheVariants.{NoMemory};
+ghost use Rattle.ss_join.specs.Cutting.{Seen};
+ghost use Rattle.ss_join.specs.Joined.{Answers, Blames, limit_after, none_refused};
+
+mod lead;
+
+pub use lead::{Cut, Lead, LeadFault};
+use ss_run::Simulated;
+use ss_worker::Worker;
+use std::alloc::Global;
+use std::thread::Threads;
+
+/// How a run ended: the time that its final line tells, in picoseconds, and how many windows it had.
+#[derive(Clone, Copy, Debug, PartialEq, Eq)]
+pub struct Ending {
+    pub time: u64,
+    pub windows: u64,
+}
+
+// Before its first cut a run may end with no memory.
+fn nothing_given<E: Simulated, D: Lead>(_lead: &D)
+    ensures { (run : RunSpec) → IsFitting E.kind E.meaning run → none_refused (D.seen _lead.now) ≡ None → Answers E.kind E.meaning run (Err NoMemory) (D.seen _lead.now) (D.seen _lead.now) }
+{}
+
+/// Runs a run's workers from its beginning to its end, each window on at most `hosts` threads, and hands the lines to
+/// the lead, window by window. The lines of all cuts are those of the run of one ordered list of events, and the
+/// workers then stand at its end, with nothing missing. After a fault the lines that the lead accepted, and behind
+/// them those of the cut that it refused, are a beginning of them, and the workers may only be let go. Where it
+/// answers `Failed` or `Limit`, the lead answered so in this call.
+///
+/// So far this body only answers that no memory is left.
+pub fn run_joined<T: Threads + Sync, E: Simulated + Send, D: Lead>(
+    rt: &T,
+    alloc: Global,
+    workers: &mut Vec<Worker<E>>,
+    hosts: u32,
+    lead: &mut D,
+) -> Result<Ending, LeadFault>
+where
+    E::Load: Send,
+    ghost run: { RunSpec }
+    requires hosts { 1 ≤ hosts }
+    requires fits { IsFitting E.kind E.meaning run }
+    requires workers { AllStandAt run 0 workers.old.items }
+    requires open { D.limit lead.old ≡ None }
+    requires unrefused { none_refused (D.seen lead.old) ≡ None }
+    ensures answers { Answers E.kind E.meaning run result (D.seen lead.old) (D.seen lead.new) }
+    ensures stand { IfOk result (λ e. AllStandAt run e.windows workers.new.items) }
+    ensures blames { Blames result (D.faults lead.old) (D.faults lead.new) }
+    ensures kept { D.faults lead.old ≤ D.faults lead.new }
+    ensures limit { D.limit lead.new ≡ limit_after result }
+{
+    nothing_given::<E, D>(lead);
+    Err(LeadFault::NoMemory)
+}
