@@ -1,5 +1,5 @@
 -- What goes through one side of a line.
-use Rattle.std.proofs.Common.{◌≡◌, ◌≢◌, ℕ, zero, suc, ◌+◌, ◌*◌, ◌-◌, ◌≤◌, ◌<◌, ◌⊎◌, inl, inr, Bool, true, false, cond, eqb, List, [], ◌∷◌, length, replicate, drop, min, Option, Some, None, set, refl, sym, ◌∙◌, ap, subst, arith}
+use Rattle.std.proofs.Common.{◌≡◌, ◌≢◌, ℕ, zero, suc, ◌+◌, ◌-◌, ◌≤◌, ◌<◌, ◌⊎◌, inl, inr, Bool, true, false, cond, eqb, List, [], ◌∷◌, length, replicate, drop, min, Option, Some, None, set, refl, sym, ◌∙◌, ap, subst, arith}
 use Rattle.std.specs.Prelude.{nat_lt, option_map, option_and_then, slice_get}
 use Rattle.std.proofs.Math.Nat.{mul-le-mul_right}
 use Rattle.std.proofs.lemmas.Bool.{eq-eqb, ne_eqb, cases_eq, leb-true, ltb-false}
@@ -7,12 +7,12 @@ use Rattle.std.proofs.lemmas.List.{length-set, length-replicate, get_or-set_same
 use Rattle.mr_flow.specs.declared.Packet.{Packet}
 use Rattle.mr_flow.specs.declared.NetLoad.TheVariants as load
 use Rattle.mr_flow.specs.Queue.{Row, flits_of, head, rest, added, empty_row, row_at}
-use Rattle.mr_flow.specs.Side.{Side, IsWhole, channels, input, output, credits_at, arrived, taken, is_covered, may_go, in_turn, next_channel, leaving, departed, sent}
-use Rattle.mr_flow.specs.Flow.{gate, held_flits, moved_flits, sent_flits, Departs, CreditsPay, ArrivalsCount, TakenCount, SentDeparts, CapacityStays, StaysWhole, FreshCounts}
+use Rattle.mr_flow.specs.Side.{Side, IsWhole, IsSound, channels, input, output, credits_at, arrived, taken, is_covered, may_go, in_turn, next_channel, passing, leaving, departed, sent}
+use Rattle.mr_flow.specs.Flow.{gate, held_flits, moved_flits, sent_flits, Departs, CreditsPay, ArrivalsCount, TakenCount, SentDeparts, SentTakesItsTime, CapacityStays, StaysWhole, StaysSound, FreshCounts}
 use Rattle.mr_flow.specs.Moves.{Gains, Loses, PacketsMove}
 use Rattle.mr_flow.proofs.Rows.{flits_of-push}
 use Rattle.mr_flow.proofs.Turns.{find_passes}
-use Rattle.mr_flow.proofs.Sides.{whole_fresh, whole_arrived, whole_queued, whole_taken, whole_departed}
+use Rattle.mr_flow.proofs.Sides.{whole_fresh, whole_arrived, whole_queued, whole_taken, whole_departed, sound_fresh, sound_arrived, sound_queued, sound_taken, sound_departed}
 
 gate_here : (c k n : ℕ) → c ≡ k → gate (eqb c k) n ≡ n
 gate_here c k n e = ap (λ b. gate b n) (eq-eqb c k e)
@@ -44,21 +44,21 @@ record Going (s : Side) (now c : ℕ) (p : Packet) (extra : ℕ) : Type 0 where
   free : s.line_free ≤ now
   front : head (output s c) ≡ Some p
   covered : p.flits ≤ credits_at s c
-  delay : extra ≡ p.flits * s.flit_time
+  delay : extra ≡ passing s p
 
-going_from : (s : Side) (now d c : ℕ) (p : Packet) (extra : ℕ) → s.line_free ≤ now → (h : Option Packet) → head (output s d) ≡ h → is_covered h (credits_at s d) ≡ true → option_map {U = ℕ × Packet × ℕ} (λ (q : Packet). (d, q, q.flits * s.flit_time)) h ≡ Some (c, p, extra) → Going s now c p extra
+going_from : (s : Side) (now d c : ℕ) (p : Packet) (extra : ℕ) → s.line_free ≤ now → (h : Option Packet) → head (output s d) ≡ h → is_covered h (credits_at s d) ≡ true → option_map {U = ℕ × Packet × ℕ} (λ (q : Packet). (d, q, passing s q)) h ≡ Some (c, p, extra) → Going s now c p extra
 going_from s now d c p extra free None e goes is = absurd (cc)
 going_from s now d c p extra free (Some q) e goes is =
     let three = some_same is in
     let channel : d ≡ c = ap (λ (t : ℕ × Packet × ℕ). t.0) three in
     let packet : q ≡ p = ap (λ (t : ℕ × Packet × ℕ). t.1) three in
-    let delay : q.flits * s.flit_time ≡ extra = ap (λ (t : ℕ × Packet × ℕ). t.2) three in
+    let delay : passing s q ≡ extra = ap (λ (t : ℕ × Packet × ℕ). t.2) three in
     let enough : q.flits ≤ credits_at s d = leb-true q.flits (credits_at s d) goes in
     record {
       free = free;
       front = subst (λ (k : ℕ). head (output s k) ≡ Some p) channel (e ∙ ap Some packet);
       covered = subst (λ (k : ℕ). p.flits ≤ credits_at s k) channel (subst (λ (x : Packet). x.flits ≤ credits_at s d) packet enough);
-      delay = sym delay ∙ ap (λ (x : Packet). x.flits * s.flit_time) packet;
+      delay = sym delay ∙ ap (λ (x : Packet). passing s x) packet;
     }
 
 going_next : (s : Side) (now c : ℕ) (p : Packet) (extra : ℕ) → s.line_free ≤ now → (o : Option ℕ) → next_channel s ≡ o → option_and_then (leaving s) o ≡ Some (c, p, extra) → Going s now c p extra
@@ -78,15 +78,13 @@ departs s now c p extra whole go =
     let here : c < channels s = omega (arith, whole.outputs) in
     let left : row_at (set s.outputs c (rest (output s c))) c ≡ rest (output s c) = get_or-set_same s.outputs c (rest (output s c)) (empty_row 0) among in
     let paid : credits_at (departed s now (Some (c, p, extra))) c ≡ credits_at s c - p.flits = get_or-set_same s.credits c (credits_at s c - p.flits) 0 here in
-    let fit = whole.waiting c in
-    let few : p.flits ≤ (output s c).capacity = omega (arith, head-le (output s c) p go.front, fit.held) in
     record {
       here = here;
       free = go.free;
       in_front = in_front (output s c) p go.front ∙ ap (λ (q : Row). p ∷ q.packets) (sym left);
       covered = omega (arith, paid, go.covered);
       delay = go.delay;
-      short = omega (arith, go.delay, mul-le-mul_right s.flit_time few, fit.short);
+      short = omega (arith, go.delay);
       busy = refl;
       other_queues = λ k other. get_or-set_other s.outputs c k (rest (output s c)) (empty_row 0) other;
       other_credits = λ k other. get_or-set_other s.credits c k (credits_at s c - p.flits) 0 other;
@@ -98,6 +96,12 @@ departs s now c p extra whole go =
 
 pub sent_departs : SentDeparts
 sent_departs s now c p extra whole is = subst (λ (o : Option (ℕ × Packet × ℕ)). Departs s (departed s now o) now c p extra) (sym is) (departs s now c p extra whole (going s now c p extra is))
+
+pub sent_takes_its_time : SentTakesItsTime
+sent_takes_its_time s now c p extra whole sound is =
+    let go = going s now c p extra is in
+    let few : p.flits ≤ (output s c).capacity = omega (arith, head-le (output s c) p go.front, sound.waiting c) in
+    omega (arith, go.delay, mul-le-mul_right s.flit_time few, whole.short_out c)
 
 pub credits_pay : CreditsPay
 credits_pay s now k whole = at_sent (sent s now) refl
@@ -181,11 +185,14 @@ capacity_stays s (load.Packet d p) c k = (capacity-set s.inputs d k (added (inpu
 capacity_stays s (load.Credit d flits) c k = (refl, capacity-set s.inputs c k (rest (input s c)) refl)
 
 pub stays_whole : StaysWhole
-stays_whole s l c now p whole = (whole_arrived s l whole, whole_queued s c p whole, whole_taken s c whole, at_sent (sent s now) refl)
+stays_whole s l c now p whole = (whole_arrived s l whole, whole_queued s c p whole, whole_taken s c whole, whole_departed s now (sent s now) whole)
+
+pub stays_sound : StaysSound
+stays_sound s l c now p whole sound = (sound_arrived s l sound, sound_queued s c p sound, sound_taken s c sound, at_sent (sent s now) refl)
   where
-    at_sent : (o : Option (ℕ × Packet × ℕ)) → sent s now ≡ o → IsWhole (departed s now o)
-    at_sent None is = whole
-    at_sent (Some (d, q, extra)) is = whole_departed s now d q extra ((departs s now d q extra whole (going s now d q extra is)).here) whole
+    at_sent : (o : Option (ℕ × Packet × ℕ)) → sent s now ≡ o → IsSound (departed s now o)
+    at_sent None is = sound
+    at_sent (Some (d, q, extra)) is = sound_departed s now d q extra (departs s now d q extra whole (going s now d q extra is)).here sound
 
 fresh_at : (n capacity k : ℕ) → flits_of (row_at (replicate n (empty_row capacity)) k).packets ≡ 0
 fresh_at zero capacity k = refl
@@ -196,6 +203,7 @@ pub fresh_counts : FreshCounts
 fresh_counts count i o credits flit_time k hi ho =
     let n = min count 256 in (
       whole_fresh count i o credits flit_time hi ho,
+      sound_fresh count i o credits flit_time,
       fresh_at n i k,
       λ here.
           let below : k < n = omega (arith, here, length-replicate n credits) in

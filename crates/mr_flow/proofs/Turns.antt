@@ -1,5 +1,5 @@
 -- Whose turn it is.
-use Rattle.std.proofs.Common.{◌≡◌, ◌≢◌, ℕ, suc, ◌+◌, ◌-◌, ◌<◌, Bool, true, false, cond, List, [], ◌∷◌, Option, Some, None, refl, sym, ◌∙◌, ap, subst, arith}
+use Rattle.std.proofs.Common.{◌≡◌, ◌≢◌, ℕ, suc, ◌+◌, ◌-◌, ◌<◌, min, Bool, true, false, cond, List, [], ◌∷◌, Option, Some, None, refl, sym, ◌∙◌, ap, subst, arith}
 use Rattle.std.specs.List.{find, range_with_len}
 use Rattle.std.specs.Option.{option_or}
 use Rattle.std.proofs.lemmas.List.Folds.{find-append}
@@ -28,10 +28,10 @@ pub found_ahead : (p : ℕ → Bool) (n from turn m : ℕ) (r : Option ℕ) → 
 found_ahead p n from turn m None t e some h = absurd (some refl)
 found_ahead p n from turn m (Some c) t e some h =
     let here : find p (range_with_len from (n - from)) ≡ Some c = sym (subst (λ (k : ℕ). Some c ≡ find p (range_with_len k (n - k))) t (subst (λ (k : ℕ). Some c ≡ find p (range_with_len turn (k - turn))) e h)) in
-    sym (find-append p (range_with_len from (n - from)) (range_with_len 0 from) ∙ ap (λ o. option_or o (find p (range_with_len 0 from))) here)
+    sym (find-append p (range_with_len from (n - from)) (range_with_len 0 (min from n)) ∙ ap (λ o. option_or o (find p (range_with_len 0 (min from n)))) here)
 
-pub found_behind : (p : ℕ → Bool) (n from turn m : ℕ) (r : Option ℕ) → turn ≡ from → m ≡ n → None ≡ find p (range_with_len turn (m - turn)) → r ≡ find p (range_with_len 0 (turn - 0)) → r ≡ find p (in_turn n from)
-found_behind p n from turn m r t e none h =
+pub found_behind : (p : ℕ → Bool) (n from turn m least : ℕ) (r : Option ℕ) → turn ≡ from → m ≡ n → least ≡ min from n → None ≡ find p (range_with_len turn (m - turn)) → r ≡ find p (range_with_len 0 (least - 0)) → r ≡ find p (in_turn n from)
+found_behind p n from turn m least r t e below none h =
     let here : find p (range_with_len from (n - from)) ≡ None = sym (subst (λ (k : ℕ). None ≡ find p (range_with_len k (n - k))) t (subst (λ (k : ℕ). None ≡ find p (range_with_len turn (k - turn))) e none)) in
-    let back : turn - 0 ≡ from = omega arith in
-    h ∙ ap (λ k. find p (range_with_len 0 k)) back ∙ sym (find-append p (range_with_len from (n - from)) (range_with_len 0 from) ∙ ap (λ o. option_or o (find p (range_with_len 0 from))) here)
+    let back : least - 0 ≡ min from n = omega arith in
+    h ∙ ap (λ k. find p (range_with_len 0 k)) back ∙ sym (find-append p (range_with_len from (n - from)) (range_with_len 0 (min from n)) ∙ ap (λ o. option_or o (find p (range_with_len 0 (min from n)))) here)

@@ -4,7 +4,7 @@ use Rattle.mr_flow.specs.declared.Packet.{Packet}
 use Rattle.mr_flow.specs.declared.NetLoad.{NetLoad}
 use Rattle.mr_flow.specs.declared.NetLoad.TheVariants as load
 use Rattle.mr_flow.specs.Queue.{flits_of, room, head}
-use Rattle.mr_flow.specs.Side.{Side, IsWhole, HasRoom, channels, input, output, credits_at, fresh, arrived, queued, taken, sent, pumped}
+use Rattle.mr_flow.specs.Side.{Side, IsWhole, IsSound, HasRoom, channels, input, output, credits_at, fresh, arrived, queued, taken, passing, sent, pumped}
 
 -- the number, if the test holds
 abbrev pub gate : Bool → ℕ → ℕ
@@ -40,7 +40,7 @@ pub record Departs (old new : Side) (now c : ℕ) (p : Packet) (extra : ℕ) : T
   pub free : old.line_free ≤ now
   pub in_front : (output old c).packets ≡ p ∷ (output new c).packets
   pub covered : credits_at new c + p.flits ≡ credits_at old c
-  pub delay : extra ≡ p.flits * old.flit_time
+  pub delay : extra ≡ passing old p
   pub short : extra ≤ 2 ^ 40
   pub busy : new.line_free ≡ now + extra
   pub other_queues : (k : ℕ) → k ≢ c → output new k ≡ output old k
@@ -66,14 +66,22 @@ TakenCount = (s : Side) (c k : ℕ) → c < channels s → IsWhole s → held_fl
 abbrev pub SentDeparts : Type 0
 SentDeparts = (s : Side) (now c : ℕ) (p : Packet) (extra : ℕ) → IsWhole s → sent s now ≡ Some (c, p, extra) → Departs s (pumped s now) now c p extra
 
+-- where queues hold what they may, that is the time of all its flits
+abbrev pub SentTakesItsTime : Type 0
+SentTakesItsTime = (s : Side) (now c : ℕ) (p : Packet) (extra : ℕ) → IsWhole s → IsSound s → sent s now ≡ Some (c, p, extra) → extra ≡ p.flits * s.flit_time
+
 -- the input queues' capacities stay
 abbrev pub CapacityStays : Type 0
 CapacityStays = (s : Side) (l : NetLoad) (c k : ℕ) → ((input (arrived s l) k).capacity ≡ (input s k).capacity) × ((input (taken s c) k).capacity ≡ (input s k).capacity)
 
 -- a side stays whole, whatever is done to it
 abbrev pub StaysWhole : Type 0
-StaysWhole = (s : Side) (l : NetLoad) (c now : ℕ) (p : Packet) → IsWhole s → (HasRoom s l → IsWhole (arrived s l)) × (p.flits ≤ room (output s c) → IsWhole (queued s c p)) × IsWhole (taken s c) × IsWhole (pumped s now)
+StaysWhole = (s : Side) (l : NetLoad) (c now : ℕ) (p : Packet) → IsWhole s → IsWhole (arrived s l) × IsWhole (queued s c p) × IsWhole (taken s c) × IsWhole (pumped s now)
+
+-- and sound, where there is room for what comes
+abbrev pub StaysSound : Type 0
+StaysSound = (s : Side) (l : NetLoad) (c now : ℕ) (p : Packet) → IsWhole s → IsSound s → (HasRoom s l → IsSound (arrived s l)) × (p.flits ≤ room (output s c) → IsSound (queued s c p)) × IsSound (taken s c) × IsSound (pumped s now)
 
 -- on a fresh side nothing is held, and each channel has its capacity and its credits
 abbrev pub FreshCounts : Type 0
-FreshCounts = (count i o credits flit_time k : ℕ) → i * flit_time ≤ 2 ^ 40 → o * flit_time ≤ 2 ^ 40 → let s = fresh count i o credits flit_time in IsWhole s × (held_flits s k ≡ 0) × (k < channels s → (credits_at s k ≡ credits) × ((input s k).capacity ≡ i))
+FreshCounts = (count i o credits flit_time k : ℕ) → i * flit_time ≤ 2 ^ 40 → o * flit_time ≤ 2 ^ 40 → let s = fresh count i o credits flit_time in IsWhole s × IsSound s × (held_flits s k ≡ 0) × (k < channels s → (credits_at s k ≡ credits) × ((input s k).capacity ≡ i))

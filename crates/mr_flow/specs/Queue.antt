@@ -41,7 +41,10 @@ is_waiting q = nat_lt 0 (length q.packets)
 abbrev pub waiting_in : List Row → ℕ
 waiting_in qs = count_by is_waiting qs
 
--- it holds no more than it may, and what it may hold passes in 2^40 picoseconds
-pub record IsFit (flit_time : ℕ) (q : Row) : Type 0 where
-  pub held : flits_of q.packets ≤ q.capacity
-  pub short : q.capacity * flit_time ≤ 2 ^ 40
+-- what it may hold passes in 2^40 picoseconds
+abbrev pub IsShort : ℕ → Row → Type 0
+IsShort flit_time q = q.capacity * flit_time ≤ 2 ^ 40
+
+-- it holds no more than it may. A queue that was read from bytes may hold more, until it is judged
+abbrev pub IsHeld : Row → Type 0
+IsHeld q = flits_of q.packets ≤ q.capacity

@@ -4,7 +4,7 @@ use Rattle.std.specs.List.{range_with_len}
 use Rattle.mr_flow.specs.declared.Packet.{Packet}
 use Rattle.mr_flow.specs.declared.NetLoad.{NetLoad}
 use Rattle.mr_flow.specs.declared.NetLoad.TheVariants as load
-use Rattle.mr_flow.specs.Queue.{Row, IsFit, room, empty_row, head, rest, added, row_at, waiting_in}
+use Rattle.mr_flow.specs.Queue.{Row, IsShort, IsHeld, room, empty_row, head, rest, added, row_at, waiting_in}
 
 -- per channel the packets that came in, those that are to go out, and the flits that may still go; when the line is
 -- free again; the channel whose turn it is; and how long a flit takes
@@ -70,17 +70,21 @@ is_covered (Some p) credits = nat_le p.flits credits
 abbrev pub may_go : Side → ℕ → Bool
 may_go s c = is_covered (head (output s c)) (credits_at s c)
 
--- n channels in cyclic order from one
+-- n channels in cyclic order from one, where it is one of them, and else from the first
 abbrev pub in_turn : ℕ → ℕ → List ℕ
-in_turn n from = range_with_len from (n - from) ++ range_with_len 0 from
+in_turn n from = range_with_len from (n - from) ++ range_with_len 0 (min from n)
 
 -- the first channel whose packet in front may go
 abbrev pub next_channel : Side → Option ℕ
 next_channel s = find (may_go s) (in_turn (channels s) s.pump)
 
+-- how long a packet's flits take on the line. No queue may hold more than passes in 2^40 picoseconds
+abbrev pub passing : Side → Packet → ℕ
+passing s p = min (p.flits * s.flit_time) (2 ^ 40)
+
 -- the packet in front of a channel, with the time that its flits take
 abbrev pub leaving : Side → ℕ → Option (ℕ × Packet × ℕ)
-leaving s c = option_map (λ p. (c, p, p.flits * s.flit_time)) (head (output s c))
+leaving s c = option_map (λ p. (c, p, passing s p)) (head (output s c))
 
 -- what goes out at a time: its channel, the packet and the extra delay
 abbrev pub sent : Side → ℕ → Option (ℕ × Packet × ℕ)
@@ -99,11 +103,16 @@ departed s now (Some (c, p, extra)) = record s {
 abbrev pub pumped : Side → ℕ → Side
 pumped s now = departed s now (sent s now)
 
--- the lists are of one length, the turn is a channel's where there is one, and the queues hold what they may
+-- the lists are of one length, and what the queues may hold passes in 2^40 picoseconds
 pub record IsWhole (s : Side) : Type 0 where
   pub few : channels s ≤ 256
   pub inputs : length s.inputs ≡ channels s
   pub outputs : length s.outputs ≡ channels s
+  pub short_in : (c : ℕ) → IsShort s.flit_time (input s c)
+  pub short_out : (c : ℕ) → IsShort s.flit_time (output s c)
+
+-- the queues hold what they may, and the turn is a channel's where there is one
+pub record IsSound (s : Side) : Type 0 where
   pub turn : s.pump ≤ channels s - 1
-  pub held : (c : ℕ) → IsFit s.flit_time (input s c)
-  pub waiting : (c : ℕ) → IsFit s.flit_time (output s c)
+  pub held : (c : ℕ) → IsHeld (input s c)
+  pub waiting : (c : ℕ) → IsHeld (output s c)

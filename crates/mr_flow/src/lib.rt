@@ -7,16 +7,19 @@ ghost use Rattle.mr_flow.specs.declared.ShapeFault.TheVariants.{NoMemory};
 mod credits;
 mod laws;
 mod line_end;
+mod payload;
 mod queue;
 mod queues;
 
 pub use credits::Credits;
 pub use laws::{
-    a_fresh_side_is_empty, a_side_stays_whole, arrivals_are_counted, capacities_stay,
-    credits_pay_for_what_is_sent, packets_move_from_front_to_back, sent_packets_depart,
-    taken_packets_are_counted,
+    a_fresh_side_is_empty, a_side_stays_sound, a_side_stays_whole, arrivals_are_counted,
+    capacities_stay, credits_pay_for_what_is_sent, packets_move_from_front_to_back,
+    sent_packets_depart, sent_packets_take_their_time, taken_packets_are_counted,
+    what_was_saved_is_read,
 };
 pub use line_end::LineEnd;
+pub use payload::{read_core_load, read_net_load};
 pub use queue::Queue;
 use std::alloc::{AllocError, AllocFailed};
 use thiserror::Error;
@@ -47,6 +50,26 @@ pub enum NetLoad {
     Packet { channel: u8, packet: Packet },
     /// Flits of a channel that are free again at the receiver of the way back.
     Credit { channel: u8, flits: u32 },
+}
+
+/// What an event carries.
+#[derive(Clone, Copy, Debug, PartialEq, Eq)]
+pub enum Load {
+    /// A number, between core kinds.
+    Core { n: u32 },
+    /// What goes over a line of a network.
+    Net(NetLoad),
+}
+
+/// What packets a network has.
+#[derive(Clone, Copy, Debug, PartialEq, Eq)]
+pub struct Bounds {
+    /// How many endpoints there are.
+    pub endpoints: u32,
+    /// How many virtual networks there are.
+    pub vns: u8,
+    /// The most flits of a packet: the least capacity of a queue.
+    pub least: u32,
 }
 
 /// Where a port of a router leads.

@@ -1,14 +1,19 @@
 //! One end of a line between routers and endpoints.
 
-ghost use Rattle.std.specs.Prelude.{◌≡◌, ◌≤◌, ◌<◌, ◌+◌, ◌*◌, ◌^◌, ◌-◌, ◌==◌, true, length, slice_set, OnOk, OnErr, IfOk, IfSome, find};
+ghost use Rattle.std.specs.Prelude.{◌≡◌, ◌≤◌, ◌<◌, ◌+◌, ◌*◌, ◌^◌, ◌-◌, ◌++◌, ◌==◌, true, length, slice_get, slice_set, Some, OnOk, OnErr, IfOk, IfSome, find, min};
 ghost use Rattle.std.specs.List.{range_with_len};
 ghost use Rattle.mr_flow.specs.Queue.{room, head, added, waiting_in};
+ghost use Rattle.std.specs.List.{flat_map};
+ghost use Rattle.ss_element.specs.Gives.{Gives, put_at};
+ghost use Rattle.mr_flow.specs.Saved.{Lane, lane_of, lane_text, lane_form, lanes_form, lanes_of, with_lanes};
 ghost use Rattle.mr_flow.specs.Side.{HasRoom, IsWhole, channels, input, output, credits_at, fresh, arrived, queued, taken, may_go, next_channel, leaving, sent, departed, pumped, is_idle};
 
 use crate::credits::Credits;
 use crate::queue::Queue;
 use crate::queues::Queues;
 use crate::{NetLoad, Packet};
+use ss_element::RestoreFault;
+use ss_wire::{Reader, Writer};
 use std::alloc::{AllocError, Global};
 use std::marker::Model;
 
@@ -168,7 +173,6 @@ impl LineEnd {
 
     /// Sets when the line is free, in picoseconds, and the channel whose turn it is, as they were saved. All else stays.
     pub fn set_line(&mut self, line_free: u64, turn: u8)
-        requires { turn < channels self.old }
         ensures { self.new ≡ record self.old { line_free = line_free; pump = turn } }
     {
         self.line_free = line_free;
@@ -215,9 +219,10 @@ impl LineEnd {
         ensures below { IfSome result (λ c. c < channels self.now) }
     {
         let turn = u16::from(self.pump);
-        match self.first_from(turn, self.channels()) {
+        let count = self.channels();
+        match self.first_from(turn, count) {
             Some(channel) => Some(channel),
-            None => self.first_from(0, turn),
+            None => self.first_from(0, turn.min(count)),
         }
     }
 
@@ -233,10 +238,60 @@ impl LineEnd {
             unreachable!()
         };
         self.credits.take(channel, packet.flits);
-        let extra = u64::from(packet.flits) * self.flit_time;
+        let extra = u64::from(packet.flits)
+            .saturating_mul(self.flit_time)
+            .min(1 << 40);
         self.line_free = now + extra;
         self.pump = ((usize::from(channel) + 1) % self.credits.channels()) as u8;
         Some((channel, packet, extra))
+    }
+
+    /// Writes its channels in order: of each the packets that came in, those that are to go out, and 4 bytes of its credits. It fails
+    /// only where no memory is left, and nothing is then known of `out`. The form is this project's own.
+    pub fn save_channels(&self, out: &mut Writer) -> Result<(), AllocError>
+        ensures { OnOk result (out.new ≡ out.old ++ flat_map lane_text (lanes_of self.now)) }
+    {
+        for channel in 0..self.channels() {
+            self.save_channel(channel as u8, out)?;
+        }
+        Ok(())
+    }
+
+    // Writes a channel.
+    fn save_channel(&self, channel: u8, out: &mut Writer) -> Result<(), AllocError>
+        requires { channel < channels self.now }
+        ensures { OnOk result (out.new ≡ out.old ++ lane_text (lane_of self.now channel)) }
+    {
+        self.inputs.get(channel).save(out)?;
+        self.outputs.get(channel).save(out)?;
+        out.u32(self.credits.left(channel))?;
+        Ok(())
+    }
+
+    // Takes on a channel that was written.
+    fn restore_channel(&mut self, channel: u8, bytes: &mut Reader<'_>) -> Result<(), RestoreFault>
+        requires { channel < channels self.old }
+        ensures told { (l : Lane) → slice_get (lanes_of self.old) channel ≡ Some l → Gives (λ u. lanes_of self.new) result bytes.new (put_at (lanes_of self.old) channel ((lane_form l).read bytes.old)) }
+        ensures len { channels self.new ≡ channels self.old }
+        ensures same { self.new ≡ record self.old { inputs = self.new.inputs; outputs = self.new.outputs; credits = self.new.credits } }
+    {
+        self.inputs.restore(channel, bytes)?;
+        self.outputs.restore(channel, bytes)?;
+        self.credits.set(channel, bytes.u32()?);
+        Ok(())
+    }
+
+    /// Takes on the channels that were written, be it what they may hold or not. All else stays. After a refusal nothing is known of
+    /// the end and of the reader.
+    pub fn restore_channels(&mut self, bytes: &mut Reader<'_>) -> Result<(), RestoreFault>
+        ensures told { Gives (λ u. lanes_of self.new) result bytes.new ((lanes_form (lanes_of self.old)).read bytes.old) }
+        ensures same { OnOk result (self.new ≡ with_lanes self.old (lanes_of self.new)) }
+    {
+        for channel in 0..self.channels() {
+            self.restore_channel(channel as u8, bytes)?;
+        }
+        let _ = &self.inputs;
+        Ok(())
     }
 
     /// Lets a packet go at `now`, in picoseconds, where the line is free: the first one of the first channel in cyclic order that

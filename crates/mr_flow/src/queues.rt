@@ -1,10 +1,14 @@
 //! A queue of packets per channel.
 
 ghost use Rattle.std.specs.Prelude.{◌≡◌, ◌≤◌, ◌<◌, length, replicate, slice_set, OnOk, OnErr, IfOk, IfSome};
+ghost use Rattle.ss_element.specs.Gives.{Gives};
 ghost use Rattle.mr_flow.specs.Queue.{flits_of, room, empty_row, head, rest, added, row_at, waiting_in};
+ghost use Rattle.mr_flow.specs.Saved.{row_form};
 
 use crate::Packet;
 use crate::queue::Queue;
+use ss_element::RestoreFault;
+use ss_wire::Reader;
 use std::alloc::{AllocError, Global};
 use std::marker::Model;
 
@@ -80,5 +84,27 @@ impl Queues {
             self.waiting -= 1;
         }
         Some(packet)
+    }
+
+    // Takes on the packets of a channel that were written.
+    pub(crate) fn restore(
+        &mut self,
+        channel: u8,
+        bytes: &mut Reader<'_>,
+    ) -> Result<(), RestoreFault>
+        requires { channel < length self.old }
+        ensures told { Gives (λ u. row_at self.new channel) result bytes.new ((row_form (row_at self.old channel)).read bytes.old) }
+        ensures same { self.new ≡ slice_set self.old channel (row_at self.new channel) }
+        ensures kept { (row_at self.new channel).capacity ≡ (row_at self.old channel).capacity }
+    {
+        let queue = &mut self.items[usize::from(channel)];
+        if !queue.is_empty() {
+            self.waiting -= 1;
+        }
+        let outcome = queue.restore(bytes);
+        if !queue.is_empty() {
+            self.waiting += 1;
+        }
+        outcome
     }
 }

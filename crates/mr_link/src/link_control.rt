@@ -1,12 +1,17 @@
 //! Link control.
 
-ghost use Rattle.std.specs.Prelude.{◌≡◌, ◌≤◌, ◌<◌, ◌*◌, ◌^◌, slice_set, OnOk, OnErr, IfOk};
+ghost use Rattle.std.specs.Prelude.{◌++◌, ◌≡◌, ◌≤◌, ◌<◌, ◌*◌, ◌^◌, slice_set, OnOk, OnErr, IfOk};
+ghost use Rattle.std.specs.List.{flat_map};
+ghost use Rattle.ss_element.specs.Gives.{Gives};
+ghost use Rattle.mr_flow.specs.Saved.{lane_text, lanes_form, lanes_of, with_lanes};
 ghost use Rattle.mr_flow.specs.Queue.{head, waiting_in};
 ghost use Rattle.mr_flow.specs.Side.{HasRoom, IsWhole, channels, input, output, credits_at, fresh, arrived, taken, sent, pumped, is_idle};
 ghost use Rattle.mr_link.specs.Sending.{Sends};
 
 use crate::SendBack;
 use mr_flow::{LineEnd, NetLoad, Packet, Queue};
+use ss_element::RestoreFault;
+use ss_wire::{Reader, Writer};
 use std::alloc::{AllocError, Global};
 use std::marker::Model;
 
@@ -165,7 +170,6 @@ impl LinkControl {
 
     /// Sets when the line is free, in picoseconds, and the virtual network whose turn it is, as they were saved. All else stays.
     pub fn set_line(&mut self, line_free: u64, turn: u8)
-        requires { turn < channels self.old }
         ensures { self.new ≡ record self.old { line_free = line_free; pump = turn } }
     {
         self.line.set_line(line_free, turn);
@@ -177,5 +181,22 @@ impl LinkControl {
         ensures { self.new ≡ record self.old { credits = slice_set self.old.credits vn flits } }
     {
         self.line.set_credits(vn, flits);
+    }
+
+    /// Writes what stands on its channels in order: of each the packets that came in, those that are to go out, and 4 bytes of its
+    /// credits. It fails only where no memory is left, and nothing is then known of `out`. The form is this project's own.
+    pub fn save_channels(&self, out: &mut Writer) -> Result<(), AllocError>
+        ensures { OnOk result (out.new ≡ out.old ++ flat_map lane_text (lanes_of self.now)) }
+    {
+        self.line.save_channels(out)
+    }
+
+    /// Takes on what was written of its channels, be it what they may hold or not. All else stays. After a refusal nothing is known
+    /// of it and of the reader.
+    pub fn restore_channels(&mut self, bytes: &mut Reader<'_>) -> Result<(), RestoreFault>
+        ensures told { Gives (λ u. lanes_of self.new) result bytes.new ((lanes_form (lanes_of self.old)).read bytes.old) }
+        ensures same { OnOk result (self.new ≡ with_lanes self.old (lanes_of self.new)) }
+    {
+        self.line.restore_channels(bytes)
     }
 }

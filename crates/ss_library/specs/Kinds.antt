@@ -9,8 +9,9 @@ use Rattle.ss_element.specs.Kind.{Kind}
 use Rattle.ss_model.specs.Wiring.{Wiring}
 use Rattle.ss_safe.specs.Laws.{Allowed}
 use Rattle.ss_safe.specs.Safe.{Safe}
-use Rattle.ss_library.specs.declared.kinds.Load.{Load}
-use Rattle.ss_library.specs.declared.kinds.Load.TheVariants as load
+use Rattle.mr_flow.specs.declared.Load.{Load}
+use Rattle.mr_flow.specs.Load.{load_weight}
+use Rattle.mr_flow.specs.declared.Load.TheVariants as load
 use Rattle.ss_library.specs.declared.kinds.Pinger.{Pinger}
 use Rattle.ss_library.specs.declared.kinds.Echo.{Echo}
 use Rattle.ss_library.specs.declared.ticker.Ticker.{Ticker}
@@ -54,6 +55,7 @@ pinger_handled p now (cause.Link port (load.Core n)) =
     if nat_lt p.sent p.count
     then record { state = thrown (returned p now) (p.sent + 1) now; actions = action.Print (pong_text p.name n now) ∷ sends (p.sent + 1) ∷ [] }
     else record { state = returned p now; actions = action.Print (pong_text p.name n now) ∷ [] }
+pinger_handled p now (cause.Link port (load.Net y)) = still p
 pinger_handled p now (cause.Own line x) = still p
 pinger_handled p now (cause.Tick clock) = still p
 
@@ -84,7 +86,9 @@ echo_heard e n = record e { stats = tallied e.stats (stat_text stat.Received) n 
 abbrev pub echo_handled : Echo → Cause Load → Reaction Echo Load
 echo_handled e cause.Start = still e
 echo_handled e (cause.Link port (load.Core n)) = record { state = echo_heard e n; actions = (if e.delay == 0 then sends n else action.SelfSend 0 e.delay (load.Core n)) ∷ [] }
+echo_handled e (cause.Link port (load.Net y)) = still e
 echo_handled e (cause.Own line (load.Core n)) = record { state = e; actions = sends n ∷ [] }
+echo_handled e (cause.Own line (load.Net y)) = still e
 echo_handled e (cause.Tick clock) = still e
 
 -- an echo that was made: a self send's delay is within what a run can add, and it knows the place of its statistic
@@ -132,6 +136,7 @@ ticked t now = record {
 abbrev pub ticker_handled : Ticker → ℕ → Cause Load → Reaction Ticker Load
 ticker_handled t now cause.Start = record { state = record t { begun = true }; actions = if nat_lt 0 t.count then action.ClockOn 0 ∷ [] else [] }
 ticker_handled t now (cause.Link port (load.Core n)) = record { state = ticker_heard t n; actions = action.Print (event_text t.name n (port_label port) now) ∷ [] }
+ticker_handled t now (cause.Link port (load.Net y)) = still t
 ticker_handled t now (cause.Own line x) = still t
 ticker_handled t now (cause.Tick clock) = ticked (raised t) now
 
@@ -240,9 +245,10 @@ HasClock (any.Pinger p) clock = ⊥
 HasClock (any.Echo e) clock = ⊥
 HasClock (any.Ticker t) clock = clock ≡ 0
 
--- a number of a core kind is below 2^32
+-- a number of a core kind is below 2^32, and nothing of a network comes to one
 abbrev pub load_fits : Load → Bool
 load_fits (load.Core n) = nat_lt n (2 ^ 32)
+load_fits (load.Net y) = false
 
 abbrev pub cause_fits : Cause Load → Bool
 cause_fits cause.Start = true
@@ -266,7 +272,7 @@ any_kind = record {
   fits_load = λ x why at. cause_fits why;
   channels = λ x port. 0;
   flow = λ x port channel. record { credits = 0; queued = 0; capacity = 0 };
-  weight = λ y. None;
+  weight = load_weight;
   stats = any_stats;
   Alike = AnyAlike;
 }

@@ -19,8 +19,8 @@ use Rattle.ss_element.specs.declared.fault.RestoreFault.{RestoreFault}
 use Rattle.ss_safe.specs.Laws.{MayTell, MayHear, SendsFit, NamesAll, NamesAsMuch, ClockKeeps, IsDue, turns, Keeps, KindLaws, KindSaves}
 use Rattle.ss_safe.specs.Kept.Flow.{no_flow, no_room}
 use Rattle.ss_safe.specs.Worlds.{world_of, saved_of}
-use Rattle.ss_library.specs.declared.kinds.Load.{Load}
-use Rattle.ss_library.specs.declared.kinds.Load.TheVariants as load
+use Rattle.mr_flow.specs.declared.Load.{Load}
+use Rattle.mr_flow.specs.declared.Load.TheVariants as load
 use Rattle.ss_library.specs.declared.kinds.Pinger.{Pinger}
 use Rattle.ss_library.specs.declared.kinds.Echo.{Echo}
 use Rattle.ss_library.specs.declared.ticker.Ticker.{Ticker}
@@ -29,7 +29,10 @@ use Rattle.ss_library.specs.declared.kinds.Any.TheVariants as any
 use Rattle.ss_library.specs.declared.table.StatName.TheVariants as stat
 use Rattle.ss_library.specs.Tables.{stat_text}
 use Rattle.ss_library.specs.Kept.{places_alike, place_kept, tallied_alike, tallied_fits, read_alike, read_fits, refit}
-use Rattle.ss_library.specs.Saved.{core_form, number_of, with_pinger, pinger_fields, pinger_form, with_echo, echo_form, with_ticker, ticker_fields, ticker_form, as_any, AnyIsOf, any_saving}
+use Rattle.mr_flow.specs.Load.{load_weight}
+use Rattle.mr_flow.specs.Saved.{load_text, core_load_form}
+use Rattle.mr_flow.proofs.Saved.{core_load_is_form}
+use Rattle.ss_library.specs.Saved.{with_pinger, pinger_fields, pinger_form, with_echo, echo_form, with_ticker, ticker_fields, ticker_form, as_any, AnyIsOf, any_saving}
 use Rattle.ss_library.specs.Kinds.{any_handled, any_primary, any_done, any_ticks, any_begun, any_fits, load_fits, cause_fits, any_kind, any_allowed, any_safe, AnyHolds, AnyAlike, lift, sends, still, pong_text, thrown, returned, pinger_handled, pinger_done, pinger_fits, PingerHolds, PingerAlike, echo_heard, EchoHolds, tick_text, raised, ticker_heard, ticker_handled, ticker_done, ticker_on, ticker_fits, TickerHolds}
 
 -- ---- alike
@@ -86,14 +89,18 @@ back_alike p n now false = record { same = refl; stats = tallied_alike p.stats (
 any_handled_alike : (x : Any) (now : ℕ) (why : Cause Load) → AnyAlike x (any_handled x now why).state
 any_handled_alike (any.Pinger p) now cause.Start = start_alike p now (nat_lt 0 p.count)
 any_handled_alike (any.Pinger p) now (cause.Link port (load.Core n)) = back_alike p n now (nat_lt p.sent p.count)
+any_handled_alike (any.Pinger p) now (cause.Link port (load.Net y)) = record { same = refl; stats = refl }
 any_handled_alike (any.Pinger p) now (cause.Own line y) = record { same = refl; stats = refl }
 any_handled_alike (any.Pinger p) now (cause.Tick clock) = record { same = refl; stats = refl }
 any_handled_alike (any.Echo e) now cause.Start = record { same = refl; stats = refl }
 any_handled_alike (any.Echo e) now (cause.Link port (load.Core n)) = record { same = refl; stats = tallied_alike e.stats (stat_text stat.Received) n }
+any_handled_alike (any.Echo e) now (cause.Link port (load.Net y)) = record { same = refl; stats = refl }
+any_handled_alike (any.Echo e) now (cause.Own line (load.Net y)) = record { same = refl; stats = refl }
 any_handled_alike (any.Echo e) now (cause.Own line (load.Core n)) = record { same = refl; stats = refl }
 any_handled_alike (any.Echo e) now (cause.Tick clock) = record { same = refl; stats = refl }
 any_handled_alike (any.Ticker t) now cause.Start = record { same = refl; stats = refl }
 any_handled_alike (any.Ticker t) now (cause.Link port (load.Core n)) = record { same = refl; stats = tallied_alike t.stats (stat_text stat.Events) n }
+any_handled_alike (any.Ticker t) now (cause.Link port (load.Net y)) = record { same = refl; stats = refl }
 any_handled_alike (any.Ticker t) now (cause.Own line y) = record { same = refl; stats = refl }
 any_handled_alike (any.Ticker t) now (cause.Tick clock) = record { same = refl; stats = refl }
 
@@ -181,6 +188,7 @@ back_by p port n now false e early h f =
 pinger_keeps : (p : Pinger) (now : ℕ) (why : Cause Load) → now < 2 ^ 62 → PingerHolds p → pinger_fits p (now + 1) ≡ true → Kept (any.Pinger p) now why (any_handled (any.Pinger p) now why)
 pinger_keeps p now cause.Start early h f = start_by p now (nat_lt 0 p.count) refl h f
 pinger_keeps p now (cause.Link port (load.Core n)) early h f = back_by p port n now (nat_lt p.sent p.count) refl early h f
+pinger_keeps p now (cause.Link port (load.Net y)) early h f = record { holds = h; fit = f; begun = refl; acts = tt; sends = tt; names = tt; clocks = λ i. refl }
 pinger_keeps p now (cause.Own line y) early h f = record { holds = h; fit = f; begun = refl; acts = tt; sends = tt; names = tt; clocks = λ i. refl }
 pinger_keeps p now (cause.Tick clock) early h f = record { holds = h; fit = f; begun = refl; acts = tt; sends = tt; names = tt; clocks = λ i. refl }
 
@@ -199,6 +207,7 @@ back_done p n now false d = done_again p.got p.count d
 pinger_done_stays : (p : Pinger) (now : ℕ) (why : Cause Load) → pinger_done p ≡ true → pinger_done (pinger_handled p now why).state ≡ true
 pinger_done_stays p now cause.Start d = start_done p now (nat_lt 0 p.count) d
 pinger_done_stays p now (cause.Link port (load.Core n)) d = back_done p n now (nat_lt p.sent p.count) d
+pinger_done_stays p now (cause.Link port (load.Net y)) d = d
 pinger_done_stays p now (cause.Own line y) d = d
 pinger_done_stays p now (cause.Tick clock) d = d
 
@@ -223,6 +232,8 @@ echo_by e port n now false d h m = record { holds = heard_holds e n m h; fit = r
 echo_keeps : (e : Echo) (now : ℕ) (why : Cause Load) → EchoHolds e → MayHear any_kind (any.Echo e) (now + 1) why → Kept (any.Echo e) now why (any_handled (any.Echo e) now why)
 echo_keeps e now cause.Start h m = record { holds = h; fit = refl; begun = refl; acts = tt; sends = tt; names = tt; clocks = λ i. refl }
 echo_keeps e now (cause.Link port (load.Core n)) h m = echo_by e port n now (nat_eq e.delay 0) refl h m
+echo_keeps e now (cause.Link port (load.Net y)) h m = absurd cc
+echo_keeps e now (cause.Own line (load.Net y)) h m = absurd cc
 echo_keeps e now (cause.Own line (load.Core n)) h m = record { holds = h; fit = refl; begun = refl; acts = (omega arith, tt); sends = (m, tt); names = (refl, tt); clocks = λ i. refl }
 echo_keeps e now (cause.Tick clock) h m = record { holds = h; fit = refl; begun = refl; acts = tt; sends = tt; names = tt; clocks = λ i. refl }
 
@@ -303,18 +314,21 @@ events_hold t n small h =
 ticker_keeps : (t : Ticker) (now : ℕ) (why : Cause Load) → TickerHolds t → ticker_fits t ≡ true → MayHear any_kind (any.Ticker t) (now + 1) why → IsDue any_kind any_allowed (any.Ticker t) now why → Kept (any.Ticker t) now why (any_handled (any.Ticker t) now why)
 ticker_keeps t now cause.Start h f m due = start_ticker t now (nat_lt 0 t.count) refl h f due.1.0 due.2
 ticker_keeps t now (cause.Link port (load.Core n)) h f m due = record { holds = events_hold t n m h; fit = f; begun = due; acts = (tt, tt); sends = (tt, tt); names = (tt, tt); clocks = λ i. refl }
+ticker_keeps t now (cause.Link port (load.Net y)) h f m due = absurd cc
 ticker_keeps t now (cause.Own line y) h f m due = record { holds = h; fit = f; begun = due; acts = tt; sends = tt; names = tt; clocks = λ i. refl }
 ticker_keeps t now (cause.Tick k) h f m due = let a = all_three t.begun (nat_eq k 0) (nat_lt t.ticks t.count) due.1 in due_tick t now k h (due.0, a.1, a.2)
 
 ticker_done_stays : (t : Ticker) (now : ℕ) (why : Cause Load) → ticker_done t ≡ true → ticker_done (ticker_handled t now why).state ≡ true
 ticker_done_stays t now cause.Start d = d
 ticker_done_stays t now (cause.Link port (load.Core n)) d = d
+ticker_done_stays t now (cause.Link port (load.Net y)) d = d
 ticker_done_stays t now (cause.Own line y) d = d
 ticker_done_stays t now (cause.Tick k) d = done_again t.ticks t.count d
 
 ticker_primary_stays : (t : Ticker) (now : ℕ) (why : Cause Load) → (ticker_handled t now why).state.primary ≡ t.primary
 ticker_primary_stays t now cause.Start = refl
 ticker_primary_stays t now (cause.Link port (load.Core n)) = refl
+ticker_primary_stays t now (cause.Link port (load.Net y)) = refl
 ticker_primary_stays t now (cause.Own line y) = refl
 ticker_primary_stays t now (cause.Tick k) = refl
 
@@ -383,12 +397,6 @@ pub any_world : World any_kind any_safe
 any_world = world_of any_kind any_allowed any_laws
 
 -- ---- saving
-
-core_is_form : IsForm core_form
-core_is_form = told_form (field 4) load.Core number_of (λ y. Unit {0}) (λ n f. refl) (λ n f. tt) core_back (field_form 4)
-  where
-    core_back : (y : Load) → Unit {0} → load.Core (number_of y) ≡ y
-    core_back (load.Core n) t = refl
 
 pinger_is_form : (p : Pinger) → IsForm (pinger_form p)
 pinger_is_form p = told_form (pinger_fields p)
@@ -530,8 +538,9 @@ any_states_saved (any.Pinger p) at early h b f =
 any_states_saved (any.Echo e) at early h b f = (refl, h.stats)
 any_states_saved (any.Ticker t) at early h b f = (ap (λ y. with_ticker t y t.ticks t.stats) b, (ticks_below t h.count f, h.stats))
 
-load_saved : (y : Load) → load_fits y ≡ true → core_form.Fits y
+load_saved : (y : Load) → load_fits y ≡ true → core_load_form.Fits y
 load_saved (load.Core n) h = let below = number_below n h in (tt, omega arith)
+load_saved (load.Net y) h = absurd cc
 
 any_loads_saved : (x : Any) (why : Cause Load) (at : ℕ) → MayHear any_kind x at why → CauseIsOf any_saving x why
 any_loads_saved x cause.Start at h = tt
@@ -542,7 +551,7 @@ any_loads_saved x (cause.Tick clock) at h = tt
 pub any_saves : KindSaves any_kind any_allowed any_saving
 any_saves = record {
   states = any_states;
-  loads = λ x. core_is_form;
+  loads = λ x. core_load_is_form;
   begun = read_begun;
   read_alike = any_read_alike;
   read_holds = read_holds;
@@ -554,5 +563,5 @@ any_saves = record {
   loads_saved = λ x why at holds heard. any_loads_saved x why at heard;
 }
 
-pub any_saved : SavingLaws any_kind any_saving any_safe (λ y. None) core_form.spell
-any_saved = saved_of any_kind any_allowed any_laws any_saving any_saves (λ y. None) core_form.spell (λ y. refl) (λ y. refl)
+pub any_saved : SavingLaws any_kind any_saving any_safe load_weight load_text
+any_saved = saved_of any_kind any_allowed any_laws any_saving any_saves load_weight load_text (λ y. refl) (λ y. refl)

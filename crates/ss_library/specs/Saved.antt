@@ -6,20 +6,13 @@ use Rattle.ss_element.specs.Stored.{field, stats_form}
 use Rattle.ss_element.specs.Saving.{Saving}
 use Rattle.ss_element.specs.declared.fault.RestoreFault.{RestoreFault}
 use Rattle.ss_stats.specs.declared.set.Stat.{Stat}
-use Rattle.ss_library.specs.declared.kinds.Load.{Load}
-use Rattle.ss_library.specs.declared.kinds.Load.TheVariants as load
+use Rattle.mr_flow.specs.declared.Load.{Load}
+use Rattle.mr_flow.specs.Saved.{load_text, core_load_form}
 use Rattle.ss_library.specs.declared.kinds.Pinger.{Pinger}
 use Rattle.ss_library.specs.declared.kinds.Echo.{Echo}
 use Rattle.ss_library.specs.declared.ticker.Ticker.{Ticker}
 use Rattle.ss_library.specs.declared.kinds.Any.{Any}
 use Rattle.ss_library.specs.declared.kinds.Any.TheVariants as any
-
--- a load: 4 bytes of its number
-abbrev pub number_of : Load → ℕ
-number_of (load.Core n) = n
-
-abbrev pub core_form : Form RestoreFault Load
-core_form = told (field 4) load.Core number_of (λ y. Unit {0})
 
 -- a pinger: 4 bytes of what it sent last, 4 of how many came back, 8 of when it sent
 abbrev pub with_pinger : Pinger → ℕ → ℕ → ℕ → List (List ℕ × Stat) → Pinger
@@ -87,7 +80,7 @@ any_saving = record {
   spell = any_text;
   read = any_read;
   IsOf = AnyIsOf;
-  spell_load = core_form.spell;
-  read_load = λ x. core_form.read;
-  IsLoadOf = λ x. core_form.Fits;
+  spell_load = load_text;
+  read_load = λ x. core_load_form.read;
+  IsLoadOf = λ x. core_load_form.Fits;
 }

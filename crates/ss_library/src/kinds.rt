@@ -11,20 +11,14 @@ ghost use Rattle.ss_library.specs.Kinds.{pong_text, sends, thrown, pinger_handle
 use crate::stats::tally;
 use crate::ticker::Ticker;
 use itoa::Buffer;
-use ss_element::{Acts, Element, Flow, Payload, RestoreFault, restore_stats, save_stats};
+use mr_flow::{Load, read_core_load};
+use ss_element::{Acts, Element, Flow, RestoreFault, restore_stats, save_stats};
 use ss_model::{Action, Cause};
 use ss_safe::Local;
 use ss_stats::StatSet;
 use ss_units::Text;
 use ss_wire::{Reader, Writer};
 use std::alloc::{AllocError, Global};
-
-/// What an event carries.
-#[derive(Clone, Copy, Debug)]
-pub enum Load {
-    /// A number, between core kinds.
-    Core { n: u32 },
-}
 
 /// Sends the numbers from 1 to `count` out of its port, each when the one before came back, and prints
 /// what comes back.
@@ -120,7 +114,9 @@ impl Pinger {
                 Ok(())
             }
             Cause::Link { load, .. } => {
-                let Load::Core { n } = load;
+                let Load::Core { n } = load else {
+                    return Ok(());
+                };
                 let text = self.pong_text(acts.allocator(), *n, now)?;
                 acts.push(Action::Print { text })?;
                 let taken = now.saturating_sub(self.at);
@@ -175,7 +171,9 @@ impl Echo {
     {
         match cause {
             Cause::Link { load, .. } => {
-                let Load::Core { n } = load;
+                let Load::Core { n } = load else {
+                    return Ok(());
+                };
                 tally(&mut self.stats, self.received, *n as u64);
                 if self.delay == 0 {
                     send(*n, acts)
@@ -188,7 +186,9 @@ impl Echo {
                 }
             }
             Cause::Own { load, .. } => {
-                let Load::Core { n } = load;
+                let Load::Core { n } = load else {
+                    return Ok(());
+                };
                 send(*n, acts)
             }
             Cause::Start | Cause::Tick { .. } => Ok(()),
@@ -196,30 +196,14 @@ impl Echo {
     }
 }
 
-impl Payload for Load {
-    ghost use Rattle.std.specs.Prelude.{None};
-    ghost use Rattle.ss_library.specs.Saved.{core_form};
-
-    ghost weighs = { λ y. None };
-
-    ghost spells = { λ y. core_form.spell y };
-
-    fn weight(&self) -> Option<(bool, u8, u32)> {
-        None
-    }
-
-    fn save(&self, out: &mut Writer) -> Result<(), AllocError> {
-        let Load::Core { n } = self;
-        out.u32(*n)
-    }
-}
-
-/// Whether a number is one of a core kind.
+/// Whether a load is a number of a core kind.
 fn load_fits(load: &Load) -> bool
     ensures { result ≡ is_core_number load.now }
 {
-    let Load::Core { n } = load;
-    u64::from(*n) < 1 << 32
+    match load {
+        Load::Core { n } => u64::from(*n) < 1 << 32,
+        Load::Net(_) => false,
+    }
 }
 
 impl Element for Any {
@@ -270,8 +254,7 @@ impl Element for Any {
     }
 
     fn read_load(&self, bytes: &mut Reader<'_>) -> Result<Load, RestoreFault> {
-        let n = bytes.u32()?;
-        Ok(Load::Core { n })
+        read_core_load(bytes)
     }
 
     fn fits(&self, at: u64) -> bool {

@@ -14,6 +14,7 @@ mod tests;
 mod ticker;
 
 pub use fault::MakeFault;
-pub use kinds::{Any, Echo, Load, Pinger};
+pub use kinds::{Any, Echo, Pinger};
 pub use making::make;
+pub use mr_flow::Load;
 pub use ticker::Ticker;

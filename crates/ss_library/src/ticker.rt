@@ -8,10 +8,11 @@ ghost use Rattle.ss_element.specs.Gives.{Tells};
 ghost use Rattle.ss_library.specs.Saved.{ticker_form};
 ghost use Rattle.ss_library.specs.Kinds.{tick_text, event_text, port_label, ticked, ticker_handled};
 
-use crate::kinds::{Load, send};
+use crate::kinds::send;
 use crate::stats::tally;
 use crate::table::{KindName, port_name, ports_of};
 use itoa::Buffer;
+use mr_flow::Load;
 use ss_element::{Acts, RestoreFault, restore_stats, save_stats};
 use ss_model::{Action, Cause};
 use ss_stats::StatSet;
@@ -140,7 +141,9 @@ impl Ticker {
                 Ok(())
             }
             Cause::Link { port, load } => {
-                let Load::Core { n } = load;
+                let Load::Core { n } = load else {
+                    return Ok(());
+                };
                 let text = self.event_text(acts.allocator(), *n, *port, now)?;
                 acts.push(Action::Print { text })?;
                 tally(&mut self.stats, self.events, *n as u64);

@@ -9,7 +9,7 @@ use Rattle.ss_graph.specs.declared.fault.GraphFault.{GraphFault}
 use Rattle.ss_graph.specs.Checks.{first_fault}
 use Rattle.ss_graph.specs.Judge.{text_checks, graph_of}
 use Rattle.ss_library.specs.declared.kinds.Any.{Any}
-use Rattle.ss_library.specs.declared.kinds.Load.{Load}
+use Rattle.mr_flow.specs.declared.Load.{Load}
 use Rattle.ss_library.specs.Make.{Made, make_checks, model_of}
 use Rattle.ss_model.proofs.Ends.{run_one}
 use Rattle.ss_top.specs.Judge.{judged_made, judged_read, refused_by, judge, elements, limits_of, Prints, RunsTo}

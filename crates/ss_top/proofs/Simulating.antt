@@ -10,7 +10,7 @@ use Rattle.ss_graph.specs.Checks.{first_fault, Fails}
 use Rattle.ss_graph.specs.Faults.{is_memory}
 use Rattle.ss_graph.specs.Judge.{text_checks, graph_of}
 use Rattle.ss_library.specs.declared.kinds.Any.{Any}
-use Rattle.ss_library.specs.declared.kinds.Load.{Load}
+use Rattle.mr_flow.specs.declared.Load.{Load}
 use Rattle.ss_library.specs.declared.fault.MakeFault.{MakeFault}
 use Rattle.ss_library.specs.Make.{Made, make_checks, model_of}
 use Rattle.ss_library.specs.Make as making

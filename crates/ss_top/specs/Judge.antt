@@ -10,7 +10,7 @@ use Rattle.ss_graph.specs.declared.fault.LimitKind.{LimitKind}
 use Rattle.ss_graph.specs.Checks.{first_fault}
 use Rattle.ss_graph.specs.Judge.{text_checks, graph_of}
 use Rattle.ss_library.specs.declared.kinds.Any.{Any}
-use Rattle.ss_library.specs.declared.kinds.Load.{Load}
+use Rattle.mr_flow.specs.declared.Load.{Load}
 use Rattle.ss_library.specs.declared.fault.MakeFault.{MakeFault}
 use Rattle.ss_library.specs.declared.fault.MakeFault.TheVariants as making
 use Rattle.ss_library.specs.Kinds.{any_kind}

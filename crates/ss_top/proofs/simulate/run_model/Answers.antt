@@ -1,7 +1,7 @@
 use Rattle.std.proofs.Common.{sym, subst}
 use Rattle.ss_element.specs.World.{IsSafe}
 use Rattle.ss_library.specs.declared.kinds.Any.{Any}
-use Rattle.ss_library.specs.declared.kinds.Load.{Load}
+use Rattle.mr_flow.specs.declared.Load.{Load}
 use Rattle.ss_library.specs.Kinds.{any_kind, any_safe}
 use Rattle.ss_serial.specs.Serial.{Standing}
 use Rattle.ss_top.proofs.simulate.run_model.Goals as goal

@@ -1,6 +1,4 @@
-use Rattle.std.proofs.Common.{◌≤◌, sym, subst}
-use Rattle.mr_flow.specs.Queue.{room}
-use Rattle.mr_flow.specs.Side.{Side, output}
+use Rattle.mr_flow.specs.Side.{Side}
 use Rattle.mr_flow.proofs.Sides.{whole_queued}
 use Rattle.mr_flow.proofs.line_end.LineEnd.queue.Goals as goal
 
@@ -8,5 +6,4 @@ pub invariant_of-self-2 : goal.invariant_of-self-2
 invariant_of-self-2 c =
     let i = c.self.inside in
     let s : Side = record { inputs = i.inputs; outputs = i.outputs; credits = i.credits; line_free = i.line_free; pump = i.pump; flit_time = i.flit_time } in
-    let there : c.args.packet.flits ≤ room (output s c.args.channel) = subst (λ (x : Side). c.args.packet.flits ≤ room (output x c.args.channel)) (sym c.self.view_is) c.requires.room in
-    rw c.in_ok-add.ensures.ok (whole_queued s c.args.channel c.args.packet c.self.invariant there)
+    rw c.in_ok-add.ensures.ok (whole_queued s c.args.channel c.args.packet c.self.invariant)
