@@ -65,6 +65,7 @@ impl<L> Acts<L> {
     }
 
     /// Adds an action behind the others. After an error the actions are as before.
+    #[inline(always)]
     pub fn push(&mut self, action: Action<L>) -> Result<(), AllocError>
     where
         L: Drop,
@@ -77,6 +78,7 @@ impl<L> Acts<L> {
 
     /// Takes the first action. The buffer stays allocated, so that emptied actions are filled again without
     /// taking memory.
+    #[inline(always)]
     pub fn take(&mut self) -> Option<Action<L>>
         ensures some { IfSome result (λ a. self.old ≡ a ∷ self.new) }
         ensures none { IfNone result ((self.old ≡ []) × (self.new ≡ [])) }

@@ -43,7 +43,7 @@ module _ {L : Type 0} where
   tells_too x y = ap is_gt ((latest_total).antisymm x y) ∙ turned (latest_first y x) ∙ tells y x
 
   -- x is no later than y, and y than z
-  chain : (x y z : Filed L) → is_before y x ≡ false → is_before z y ≡ false → is_before z x ≡ false
+  pub chain : (x y z : Filed L) → is_before y x ≡ false → is_before z y ≡ false → is_before z x ≡ false
   chain x y z h k = sym (tells_too z x) ∙ upto latest_total z y x (tells_too z y ∙ k) (tells_too y x ∙ h)
 
   in_left : (z : Filed L) (xs ys : List (Filed L)) → In z xs → In z (xs ++ ys)
@@ -106,7 +106,7 @@ module _ {L : Type 0} where
       put true e = first_left x xs ys f (leading (Some x) (Some y) xs ys f g e x f)
       put false e = first_right y xs ys g (following (Some x) (Some y) xs ys f g e y g)
 
-  taken_is_first : (x : Filed L) (xs ys : List (Filed L)) → Takes x xs ys → IsFirst x xs
+  pub taken_is_first : (x : Filed L) (xs ys : List (Filed L)) → Takes x xs ys → IsFirst x xs
   taken_is_first x xs ys t = record { is_there = in_permutation xs (x ∷ ys) x t.left (inl refl); first = upper x xs (λ z i. at z (in_permutation (x ∷ ys) xs z (IsPermutation-sym xs (x ∷ ys) t.left) i)) }
     where
       itself : is_before x x ≡ false
@@ -256,12 +256,11 @@ module _ {L : Type 0} where
     pub different : Different heap
     pub same : in_order heap ≡ in_order all
 
-  pub copies : (a b none front both heap : List (Filed L)) → none ≡ [] → front ≡ none ++ a → both ≡ front ++ b → IsPermutation both heap → Different (a ++ b) → Copies (a ++ b) heap
-  copies a b none front both heap e f h p d =
-      let first : front ≡ a = f ∙ ap (λ w. w ++ a) e in
-      let all : both ≡ a ++ b = h ∙ ap (λ w. w ++ b) first in
-      let q : IsPermutation (a ++ b) heap = subst (λ w. IsPermutation w heap) all p in
-      record { different = different_permutation (a ++ b) heap q d; same = ap events (sym (sorted_permutation (a ++ b) heap q d)) }
+  pub copies : (all none both heap : List (Filed L)) → none ≡ [] → both ≡ none ++ all → IsPermutation both heap → Different all → Copies all heap
+  copies all none both heap e h p d =
+      let same : both ≡ all = h ∙ ap (λ w. w ++ all) e in
+      let q : IsPermutation all heap = subst (λ w. IsPermutation w heap) same p in
+      record { different = different_permutation all heap q d; same = ap events (sym (sorted_permutation all heap q d)) }
 
   pub listed_one : (list more : List (Event L)) (x : Filed L) (old new : List (Filed L)) (all : List (Event L)) → more ≡ list ++ x.event ∷ [] → in_order old ≡ x.event ∷ in_order new → list ++ in_order old ≡ all → more ++ in_order new ≡ all
   listed_one list more x old new all m t h =

@@ -1,5 +1,5 @@
 -- Events with their numbers, and the order in which they come.
-use Rattle.std.specs.Prelude.{◌≡◌, ◌⊎◌, ℕ, ◌<◌, ◌≤◌, ◌==◌, nat_lt, Bool, true, false, not, ◌&&◌, ◌||◌, List, [], ◌∷◌, Option, Some, None, if◌then◌else◌}
+use Rattle.std.specs.Prelude.{◌≡◌, ◌⊎◌, ℕ, ◌<◌, ◌≤◌, ◌==◌, nat_lt, Bool, true, false, not, ◌&&◌, ◌||◌, List, [], ◌∷◌, ◌++◌, slice_index_or, Option, Some, None, if◌then◌else◌}
 use Rattle.std.specs.List.{sum_by, AllByRecursion}
 use Rattle.std.specs.List.Sorted.{IsPermutation}
 use Rattle.std.specs.Ordering.{nat_cmp, on, flip_args, then_cmp}
@@ -88,3 +88,17 @@ module _ {L : Type 0} where
   pub record Takes (x : Filed L) (old new : List (Filed L)) : Type 0 where
     pub left : IsPermutation old (x ∷ new)
     pub first : IsUpperBound latest_first x new
+
+  -- what lanes hold, and what the lane at a place does
+  abbrev pub all : List (List (Filed L)) → List (Filed L)
+  all [] = []
+  all (xs ∷ more) = xs ++ all more
+
+  abbrev pub row : List (List (Filed L)) → ℕ → List (Filed L)
+  row lanes i = slice_index_or lanes i []
+
+  -- the lane at a place has a first that is a first of all, or no lane has anything
+  pub record IsLeader (i : ℕ) (lanes : List (List (Filed L))) : Type 0 where
+    pub best : Option (Filed L)
+    pub there : FirstOf best (row lanes i)
+    pub first : FirstOf best (all lanes)

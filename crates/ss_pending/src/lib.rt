@@ -1,18 +1,21 @@
 //! The events that are to come, in order.
 #![tactic(auto)]
 
-ghost use Rattle.std.specs.Prelude.{◌≡◌, ◌+◌, ◌<◌, [], ◌∷◌, ◌++◌, ◌==◌, OnOk, OnErr, List, ℕ, false, length, IfSome, IfNone, IfOk, OnSome};
+ghost use Rattle.std.specs.Prelude.{◌≡◌, ◌+◌, ◌<◌, [], ◌∷◌, ◌==◌, OnOk, OnErr, List, ℕ, false, length, IfSome, IfNone, IfOk, OnSome};
 ghost use Rattle.std.specs.BinaryHeap.{heap_items};
 ghost use Rattle.ss_model.specs.declared.Event.{Event};
 ghost use Rattle.ss_model.specs.Order.{insert, next_key, next_time, begins_before};
 ghost use Rattle.ss_pending.specs.Filed.{in_order, AllBelow, Different, FirstOf, Takes};
 
+mod ahead;
 mod filed;
 mod lane;
+mod road;
 
+use ahead::Ahead;
 use filed::Filed;
-use lane::{Lane, first_of, leads, take_top};
-use ss_model::{Event, Key, TICK};
+use lane::take_top;
+use ss_model::{Event, Key};
 use std::alloc::{AllocError, Global};
 use std::collections::BinaryHeap;
 use std::marker::Model;
@@ -20,68 +23,67 @@ use std::marker::Model;
 /// The events that are to come, in the order of their keys, and for one key in the order in which they were put in.
 #[derive(Drop)]
 pub struct Pending<L> {
-    ticks: Lane<L>,
-    others: Lane<L>,
+    queue: Ahead<L>,
+    // The time of the event that was taken last.
+    last: u64,
     // The number of the next event that is put in.
     next: u64,
     alloc: Global,
 }
 
 impl<L> Model for Pending<L> {
-    ghost use Rattle.std.specs.Prelude.{List, ◌++◌};
+    ghost use Rattle.std.specs.Prelude.{List};
     ghost use Rattle.ss_model.specs.declared.Event.{Event};
     ghost use Rattle.ss_pending.specs.Filed.{in_order, AllBelow, Different};
 
     ghost Value = { List (Event L) };
 
-    ghost view = { λ p. in_order (p.ticks ++ p.others) };
+    ghost view = { λ p. in_order p.queue };
 
-    ghost invariant = { λ p. Different (p.ticks ++ p.others) × AllBelow p.next (p.ticks ++ p.others) };
+    ghost invariant = { λ p. Different p.queue × AllBelow p.next p.queue };
 }
 
-fn first_key<L>(ticks: &Lane<L>, others: &Lane<L>) -> Option<Key>
-    requires { Different (ticks.now ++ others.now) }
-    ensures { result ≡ next_key (in_order (ticks.now ++ others.now)) }
+// The sort of an event: its class, and how long it is until it comes. Clocks and lines have fixed periods and latencies,
+// so events of one sort mostly come in the order in which they are put in.
+fn sort_of(key: Key, last: u64) -> u64 {
+    key.time
+        .wrapping_sub(last)
+        .wrapping_mul(4)
+        .wrapping_add(u64::from(key.class))
+}
+
+// The key of the first event.
+fn first_key<L>(queue: &Ahead<L>) -> Option<Key>
+    requires { Different queue.now }
+    ensures { result ≡ next_key (in_order queue.now) }
 {
-    match first_of(ticks.first(), others.first()) {
+    match queue.first() {
         Some(first) => Some(first.event.key),
         None => None,
     }
 }
 
 // Puts in an event whose number is above all others.
-fn put<L: Drop>(
-    ticks: &mut Lane<L>,
-    others: &mut Lane<L>,
-    filed: Filed<L>,
-) -> Result<(), AllocError>
-    requires different { Different (ticks.old ++ others.old) }
-    requires below { AllBelow filed.number (ticks.old ++ others.old) }
-    ensures ok { OnOk result (in_order (ticks.new ++ others.new) ≡ insert filed.event (in_order (ticks.old ++ others.old))) }
-    ensures different { OnOk result (Different (ticks.new ++ others.new)) }
-    ensures below { OnOk result (AllBelow (filed.number + 1) (ticks.new ++ others.new)) }
-    ensures err { OnErr result ((ticks.new ≡ ticks.old) × (others.new ≡ others.old)) }
+fn put<L: Copy + Drop>(queue: &mut Ahead<L>, filed: Filed<L>, sort: u64) -> Result<(), AllocError>
+    requires different { Different queue.old }
+    requires below { AllBelow filed.number queue.old }
+    ensures ok { OnOk result (in_order queue.new ≡ insert filed.event (in_order queue.old)) }
+    ensures different { OnOk result (Different queue.new) }
+    ensures below { OnOk result (AllBelow (filed.number + 1) queue.new) }
+    ensures err { OnErr result (queue.new ≡ queue.old) }
 {
-    if filed.event.key.class == TICK {
-        ticks.put(filed)
-    } else {
-        others.put(filed)
-    }
+    queue.put(filed, sort)
 }
 
 // Takes the first event.
-fn take<L>(ticks: &mut Lane<L>, others: &mut Lane<L>) -> Option<Filed<L>>
-    requires { Different (ticks.old ++ others.old) }
-    ensures some { IfSome result (λ f. in_order (ticks.old ++ others.old) ≡ f.event ∷ in_order (ticks.new ++ others.new)) }
-    ensures none { IfNone result (in_order (ticks.old ++ others.old) ≡ []) }
-    ensures different { Different (ticks.new ++ others.new) }
-    ensures below { (n : ℕ) → AllBelow n (ticks.old ++ others.old) → AllBelow n (ticks.new ++ others.new) }
+fn take<L: Copy + Drop>(queue: &mut Ahead<L>) -> Option<Filed<L>>
+    requires { Different queue.old }
+    ensures some { IfSome result (λ f. in_order queue.old ≡ f.event ∷ in_order queue.new) }
+    ensures none { IfNone result (in_order queue.old ≡ []) }
+    ensures different { Different queue.new }
+    ensures below { (n : ℕ) → AllBelow n queue.old → AllBelow n queue.new }
 {
-    if leads(ticks.first(), others.first()) {
-        ticks.take()
-    } else {
-        others.take()
-    }
+    queue.take()
 }
 
 impl<L> Pending<L> {
@@ -90,8 +92,8 @@ impl<L> Pending<L> {
         ensures { result ≡ [] }
     {
         Pending {
-            ticks: Lane::new(alloc),
-            others: Lane::new(alloc),
+            queue: Ahead::new(alloc),
+            last: 0,
             next: 0,
             alloc,
         }
@@ -101,14 +103,14 @@ impl<L> Pending<L> {
     pub fn is_empty(&self) -> bool
         ensures { result ≡ (length self.now == 0) }
     {
-        first_key(&self.ticks, &self.others).is_none()
+        first_key(&self.queue).is_none()
     }
 
     /// The time of the first event, in picoseconds. It takes no memory.
     pub fn next_time(&self) -> Option<u64>
         ensures { result ≡ next_time self.now }
     {
-        match first_key(&self.ticks, &self.others) {
+        match first_key(&self.queue) {
             Some(key) => Some(key.time),
             None => None,
         }
@@ -126,7 +128,8 @@ impl<L> Pending<L> {
         let Some(next) = number.checked_add(1) else {
             return Err(AllocError);
         };
-        put(&mut self.ticks, &mut self.others, Filed { event, number })?;
+        let sort = sort_of(event.key, self.last);
+        put(&mut self.queue, Filed { event, number }, sort)?;
         self.next = next;
         Ok(())
     }
@@ -138,9 +141,12 @@ impl<L> Pending<L> {
         ensures some { IfSome result (λ e. (self.old ≡ e ∷ self.new) × (e.key.time < time)) }
         ensures none { IfNone result ((begins_before time self.old ≡ false) × (self.new ≡ self.old)) }
     {
-        match first_key(&self.ticks, &self.others) {
-            Some(key) if key.time < time => match take(&mut self.ticks, &mut self.others) {
-                Some(first) => Some(first.event),
+        match first_key(&self.queue) {
+            Some(key) if key.time < time => match take(&mut self.queue) {
+                Some(first) => {
+                    self.last = first.event.key.time;
+                    Some(first.event)
+                }
                 None => None,
             },
             _ => None,
@@ -154,8 +160,7 @@ impl<L> Pending<L> {
         ensures { IfOk result (λ v. v.items ≡ self.now) }
     {
         let mut copy = Vec::new(self.alloc);
-        self.ticks.copy_to(&mut copy)?;
-        self.others.copy_to(&mut copy)?;
+        self.queue.copy_to(&mut copy)?;
         let mut heap = BinaryHeap::from(copy);
         let mut list = Vec::with_capacity(self.alloc, heap.len())?;
         while let Some(first) = take_top(&mut heap) {

@@ -6,7 +6,7 @@ use Rattle.ss_pending.proofs.Pending.list.Goals as goal
 
 pub loop-first-init : goal.loop-first-init
 loop-first-init g c =
-    let copy = copies _ _ _ _ _ _ c.new-copy.ensures.items c.in_ok-copy_to.ensures c.in_ok-copy_to-2.ensures c.from-heap.ensures.1 c.self.invariant.0 in
+    let copy = copies _ _ _ _ c.new-copy.ensures.items c.in_ok-copy_to.ensures c.from-heap.ensures.1 c.self.invariant.0 in
     (c.from-heap.ensures.2, copy.different, rw c.in_ok-list.ensures.items (copy.same ∙ c.self.view_is))
 
 pub loop-first-preserved : goal.loop-first-preserved

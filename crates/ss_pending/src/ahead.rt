@@ -1,0 +1,95 @@
+//! Events of which the first is at hand.
+
+ghost use Rattle.std.specs.Prelude.{◌≡◌, [], ◌∷◌, ◌++◌, OnOk, OnErr, IfSome, IfNone, option_copied, IsPermutation};
+ghost use Rattle.ss_pending.specs.Filed.{FirstOf, Takes};
+
+use crate::filed::Filed;
+use crate::road::Road;
+use std::alloc::{AllocError, Global};
+use std::marker::Model;
+
+/// Events of which the first stands ahead of the lanes that hold the others.
+#[derive(Drop)]
+pub struct Ahead<L> {
+    first: Option<Filed<L>>,
+    rest: Road<L>,
+}
+
+impl<L> Model for Ahead<L> {
+    ghost use Rattle.std.specs.Prelude.{List, ◌++◌, option_to_list};
+    ghost use Rattle.ss_pending.specs.declared.filed.Filed.{Filed};
+    ghost use Rattle.ss_pending.specs.Filed.{FirstOf};
+
+    ghost Value = { List (Filed L) };
+
+    ghost view = { λ a. option_to_list a.first ++ a.rest };
+
+    ghost invariant = { λ a. FirstOf a.first (option_to_list a.first ++ a.rest) };
+}
+
+impl<L> Ahead<L> {
+    /// No events. It takes no memory.
+    pub fn new(alloc: Global) -> Self
+        ensures { result ≡ [] }
+    {
+        Ahead {
+            first: None,
+            rest: Road::new(alloc),
+        }
+    }
+
+    /// The first event.
+    pub fn first(&self) -> Option<&Filed<L>>
+        ensures { FirstOf (option_copied result) self.now }
+    {
+        self.first.as_ref()
+    }
+
+    /// Puts in an event of a sort. It fails only where no memory is left, and then changes nothing.
+    pub fn put(&mut self, filed: Filed<L>, sort: u64) -> Result<(), AllocError>
+    where
+        L: Copy + Drop,
+        ensures ok { OnOk result (IsPermutation (filed ∷ self.old) self.new) }
+        ensures err { OnErr result (self.new ≡ self.old) }
+    {
+        match self.first {
+            None => {
+                self.first = Some(filed);
+                Ok(())
+            }
+            Some(first) => {
+                if filed.is_before(&first) {
+                    self.rest.put(first, sort)?;
+                    self.first = Some(filed);
+                    Ok(())
+                } else {
+                    self.rest.put(filed, sort)
+                }
+            }
+        }
+    }
+
+    /// Takes the first event. It takes no memory.
+    pub fn take(&mut self) -> Option<Filed<L>>
+    where
+        L: Copy + Drop,
+        ensures some { IfSome result (λ x. Takes x self.old self.new) }
+        ensures none { IfNone result ((self.old ≡ []) × (self.new ≡ [])) }
+    {
+        let first = self.first?;
+        self.first = self.rest.take();
+        Some(first)
+    }
+
+    /// Copies the events behind those of a list, in no particular order.
+    pub fn copy_to(&self, list: &mut Vec<Filed<L>>) -> Result<(), AllocError>
+    where
+        L: Copy + Drop,
+        ensures { OnOk result (list.new.items ≡ list.old.items ++ self.now) }
+    {
+        if let Some(first) = self.first {
+            list.push(first)?;
+        }
+        self.rest.copy_to(list)
+    }
+}

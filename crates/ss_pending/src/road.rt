@@ -1,0 +1,120 @@
+//! Lanes side by side.
+
+ghost use Rattle.std.specs.Prelude.{◌≡◌, ◌<◌, [], ◌∷◌, ◌++◌, OnOk, OnErr, IfOk, IfSome, IfNone, length, option_copied, IsPermutation};
+ghost use Rattle.ss_pending.specs.Filed.{all, row, IsLeader, Takes};
+
+use crate::filed::Filed;
+use crate::lane::{Lane, leads};
+use std::alloc::{AllocError, Global};
+use std::marker::Model;
+
+/// How many lanes there are at most.
+const MOST: usize = 16;
+
+/// Lanes side by side, each for one sort of events, so that what comes in the order of one sort stands in one run.
+/// Any event may stand in any lane.
+#[derive(Drop)]
+pub struct Road<L> {
+    lanes: Vec<Lane<L>>,
+    alloc: Global,
+}
+
+impl<L> Model for Road<L> {
+    ghost use Rattle.std.specs.Prelude.{List};
+    ghost use Rattle.ss_pending.specs.declared.filed.Filed.{Filed};
+    ghost use Rattle.ss_pending.specs.Filed.{all};
+
+    ghost Value = { List (Filed L) };
+
+    ghost view = { λ r. all r.lanes.items };
+}
+
+// The place of the lane whose first event comes first.
+fn leader<L>(lanes: &[Lane<L>]) -> usize
+    ensures { IsLeader result lanes.now }
+{
+    let mut place = lanes.len();
+    let mut best: Option<&Filed<L>> = None;
+    for (i, lane) in lanes.iter().enumerate() {
+        let first = lane.first();
+        if !leads(best, first) {
+            best = first;
+            place = i;
+        }
+    }
+    place
+}
+
+// The place of the lane for a sort, which is made where there are few.
+fn place_for<L: Drop>(
+    lanes: &mut Vec<Lane<L>>,
+    alloc: Global,
+    sort: u64,
+) -> Result<usize, AllocError>
+    ensures same { all lanes.new.items ≡ all lanes.old.items }
+    ensures there { IfOk result (λ i. i < length lanes.new.items) }
+{
+    if let Some(place) = lanes.iter().position(|lane| lane.is_for(sort)) {
+        return Ok(place);
+    }
+    let count = lanes.len();
+    if count < MOST {
+        lanes.push(Lane::new(alloc, sort))?;
+        return Ok(count);
+    }
+    Ok((sort % count as u64) as usize)
+}
+
+// Copies the events of lanes behind those of a list.
+fn copy_lanes<L: Copy + Drop>(lanes: &[Lane<L>], list: &mut Vec<Filed<L>>) -> Result<(), AllocError>
+    ensures { OnOk result (list.new.items ≡ list.old.items ++ all lanes.now) }
+{
+    for lane in lanes {
+        lane.copy_to(list)?;
+    }
+    Ok(())
+}
+
+impl<L> Road<L> {
+    /// No events. It takes no memory.
+    pub fn new(alloc: Global) -> Self
+        ensures { result ≡ [] }
+    {
+        Road {
+            lanes: Vec::new(alloc),
+            alloc,
+        }
+    }
+
+    /// Puts in an event of a sort. It fails only where no memory is left, and then changes nothing.
+    pub fn put(&mut self, filed: Filed<L>, sort: u64) -> Result<(), AllocError>
+    where
+        L: Drop,
+        ensures ok { OnOk result (IsPermutation (filed ∷ self.old) self.new) }
+        ensures err { OnErr result (self.new ≡ self.old) }
+    {
+        let place = place_for(&mut self.lanes, self.alloc, sort)?;
+        self.lanes[place].put(filed)
+    }
+
+    /// Takes the first event. It takes no memory.
+    pub fn take(&mut self) -> Option<Filed<L>>
+        ensures some { IfSome result (λ x. Takes x self.old self.new) }
+        ensures none { IfNone result ((self.old ≡ []) × (self.new ≡ [])) }
+    {
+        let place = leader(&self.lanes);
+        if place >= self.lanes.len() {
+            return None;
+        }
+        self.lanes[place].take()
+    }
+
+    /// Copies the events behind those of a list, in no particular order.
+    pub fn copy_to(&self, list: &mut Vec<Filed<L>>) -> Result<(), AllocError>
+    where
+        L: Copy + Drop,
+        ensures { OnOk result (list.new.items ≡ list.old.items ++ self.now) }
+    {
+        copy_lanes(&self.lanes, list)
+    }
+}
