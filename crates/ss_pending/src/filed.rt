@@ -73,6 +73,16 @@ impl<L> Filed<L> {
     pub fn is_before(&self, other: &Filed<L>) -> bool
         ensures { result ≡ is_before self.now other.now }
     {
-        self.cmp(other).is_gt()
+        let (mine, its) = (&self.event.key, &other.event.key);
+        if mine.time != its.time {
+            return mine.time < its.time;
+        }
+        if mine.class != its.class {
+            return mine.class < its.class;
+        }
+        if mine.line != its.line {
+            return mine.line < its.line;
+        }
+        self.number < other.number
     }
 }
