@@ -10,7 +10,7 @@ use Rattle.std.specs.Option.{option_copied, option_to_list, MatchOption, IfSome,
 use Rattle.std.specs.Ordering.{is_lt, is_gt, ordering_reverse}
 use Rattle.std.specs.declared.cmp.Ordering.{Ordering}
 use Rattle.std.specs.declared.cmp.Ordering.TheVariants.{Less, Equal, Greater}
-use Rattle.std.specs.BinaryHeap.{IsHeap, IsUpperBound, PopsGreatest}
+use Rattle.std.specs.BinaryHeap.{IsUpperBound}
 use Rattle.ss_pending.specs.declared.filed.Filed.{Filed}
 use Rattle.ss_pending.specs.Filed.{is_before, latest_first, In, AllBehind, Ascends, Different, in_order, events, IsFirst, FirstOf, Takes, leads, first_of}
 use Rattle.std.proofs.lemmas.Option.{IfSome_then}

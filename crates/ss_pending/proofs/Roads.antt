@@ -1,12 +1,11 @@
 -- Lanes side by side, and a first that stands ahead.
-use Rattle.std.proofs.Common.{◌≡◌, ℕ, ◌+◌, ◌<◌, ◌≤◌, ◌⊎◌, inl, inr, Bool, true, false, List, [], ◌∷◌, ◌++◌, Option, Some, None, zero, suc, refl, sym, ap, ◌∙◌, subst, arith, length, set, take, append_assoc, append-nil, cond, get_or, Result, Ok, Err, OnOk, OnErr}
+use Rattle.std.proofs.Common.{◌≡◌, ℕ, ◌+◌, ◌<◌, inl, inr, Bool, true, false, List, [], ◌∷◌, ◌++◌, Option, Some, None, zero, suc, refl, sym, ap, ◌∙◌, subst, arith, length, set, take, append_assoc, append-nil, cond, get_or, Result, Ok, Err, OnOk, OnErr}
 use Rattle.std.proofs.lemmas.List.Sorted.{IsPermutation-sym, IsPermutation-trans, IsPermutation-refl, IsPermutation-append_left, IsPermutation-append_right, IsPermutation-append_comm, IsPermutation-cons, IsPermutation-middle}
 use Rattle.std.specs.List.Sorted.{IsPermutation}
 use Rattle.std.specs.Option.{option_to_list, IfSome, IfNone}
-use Rattle.std.specs.BinaryHeap.{IsUpperBound}
 use Rattle.std.proofs.lemmas.Option.{IfSome_then}
 use Rattle.ss_pending.specs.declared.filed.Filed.{Filed}
-use Rattle.ss_pending.specs.Filed.{is_before, latest_first, In, IsFirst, FirstOf, Takes, leads, first_of, in_order, all, row, IsLeader}
+use Rattle.ss_pending.specs.Filed.{is_before, In, FirstOf, Takes, leads, first_of, in_order, all, row, IsLeader}
 use Rattle.ss_pending.proofs.Sorting.{asym, upper, upper_at, in_permutation}
 use Rattle.ss_pending.proofs.Lanes.{chain, taken_is_first, first_of_both}
 

@@ -1,4 +1,4 @@
-use Rattle.std.proofs.Common.{ap, refl}
+use Rattle.std.proofs.Common.{ap}
 use Rattle.std.specs.Option.{option_copied}
 use Rattle.ss_pending.proofs.Roads.{best_new, best_stays}
 use Rattle.ss_pending.proofs.road.leader.Goals as goal
