@@ -25,6 +25,8 @@ pub record Kind (S L : Type 0) : Type 1 where
   -- how many channels a port has, and what stands at one of them; and what a load weighs
   pub channels : S → ℕ → ℕ
   pub flow : S → ℕ → ℕ → Flow
+  -- the most flits that may ever be sent on a channel of a port at once: what the queue that they are for can hold
+  pub limit : S → ℕ → ℕ → ℕ
   pub weight : L → Option (Bool × ℕ × ℕ)
   pub stats : S → List Entry
   -- a second element differs from a first at most in what runs change

@@ -272,6 +272,7 @@ any_kind = record {
   fits_load = λ x why at. cause_fits why;
   channels = λ x port. 0;
   flow = λ x port channel. record { credits = 0; queued = 0; capacity = 0 };
+  limit = λ x port channel. 0;
   weight = load_weight;
   stats = any_stats;
   Alike = AnyAlike;

@@ -560,7 +560,7 @@ any_saves = record {
   handled_alike = λ x now why meets. any_handled_alike x now why;
   alike_read = alike_read;
   states_saved = any_states_saved;
-  loads_saved = λ x why at holds heard. any_loads_saved x why at heard;
+  loads_saved = λ x why at early holds heard. any_loads_saved x why at heard;
 }
 
 pub any_saved : SavingLaws any_kind any_saving any_safe load_weight load_text

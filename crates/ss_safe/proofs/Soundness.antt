@@ -15,7 +15,7 @@ use Rattle.ss_model.specs.Wiring.{Wiring, inner_at, of_link, of_own, of_clock, o
 use Rattle.ss_model.specs.Step.{State, next_multiple, after, IsUntil}
 use Rattle.ss_element.specs.Kind.{Kind}
 use Rattle.ss_element.specs.Saving.{Saving}
-use Rattle.ss_safe.specs.Laws.{Allowed, KindLaws, KindSaves}
+use Rattle.ss_safe.specs.Laws.{meters_of, Allowed, KindLaws, KindSaves}
 use Rattle.ss_safe.specs.Safe.{Each, total, one, start_at, tick_at, WiresHold, IsTimely, Reaches, IsReal, IsInPhase, TicksMatch, IsHeard, Safe, Stands}
 use Rattle.ss_safe.specs.Sound.{Timed, Sound, IsSaved, AllAlike, Restored, IsRead}
 use Rattle.ss_safe.specs.Kept.Found.{some_same, none_some, get_below, get_some, apart_numbers}
@@ -173,13 +173,18 @@ module _ {S L : Type 0} (kind : Kind S L) (allowed : Allowed S L) (saving : Savi
       paired = λ l ch link y is gy in_range.
           let b = was link.receiver y gy in
           let over = laws.same_room b.first y b.alike in
-          let back = made.paired l ch link b.first is b.there (let same = over.channels link.in_port in omega (arith, in_range, same)) in
+          let below : ch < (meters_of kind).channels b.first link.in_port = (let same = over.channels link.in_port in omega (arith, in_range, same)) in
+          let back = made.paired l ch link b.first is b.there below in
           record {
             way = back.way;
             pair = back.pair;
             same = λ x gx.
                 let a = was link.sender x gx in
                 (laws.same_room a.first x a.alike).channels link.out_port ∙ back.same a.first a.there ∙ sym (over.channels link.in_port);
+            limit = λ x gx.
+                let a = was link.sender x gx in
+                let same = back.same a.first a.there in
+                (laws.same_room a.first x a.alike).limit link.out_port ch (omega (arith, below, same)) ∙ back.limit a.first a.there ∙ sym (over.capacity link.in_port ch below);
           };
     }
 

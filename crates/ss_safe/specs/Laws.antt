@@ -17,6 +17,8 @@ pub record Meters (S L : Type 0) : Type 0 where
   pub credits : S → ℕ → ℕ → ℕ
   pub queued : S → ℕ → ℕ → ℕ
   pub capacity : S → ℕ → ℕ → ℕ
+  -- the most credits that it may have
+  pub limit : S → ℕ → ℕ → ℕ
   pub weight : L → Option (Bool × ℕ × ℕ)
 
 abbrev pub meters_of : {S L : Type 0} → Kind S L → Meters S L
@@ -25,6 +27,7 @@ meters_of kind = record {
   credits = λ x p ch. (kind.flow x p ch).credits;
   queued = λ x p ch. (kind.flow x p ch).queued;
   capacity = λ x p ch. (kind.flow x p ch).capacity;
+  limit = kind.limit;
   weight = kind.weight;
 }
 
@@ -74,7 +77,7 @@ module _ {S L : Type 0} (meters : Meters S L) where
   -- there is room for what comes in at a port: in the queue for a packet, and for a credit
   abbrev pub HasRoom : S → Cause L → Type 0
   HasRoom x cause.Start = Unit {0}
-  HasRoom x (cause.Link p y) = (ch : ℕ) → ch < meters.channels x p → (meters.queued x p ch + packet_on ch y ≤ meters.capacity x p ch) × (meters.credits x p ch + credit_on ch y < 2 ^ 32)
+  HasRoom x (cause.Link p y) = (ch : ℕ) → ch < meters.channels x p → (meters.queued x p ch + packet_on ch y ≤ meters.capacity x p ch) × (meters.credits x p ch + credit_on ch y ≤ meters.limit x p ch)
   HasRoom x (cause.Own i y) = Unit {0}
   HasRoom x (cause.Tick i) = Unit {0}
 
@@ -83,10 +86,11 @@ module _ {S L : Type 0} (meters : Meters S L) where
     pub credits : (p ch : ℕ) → ch < meters.channels x p → meters.credits r.state p ch + sends_all (packet_on ch) p r.actions ≡ meters.credits x p ch + takes (credit_on ch) p why
     pub queued : (p ch : ℕ) → ch < meters.channels x p → meters.queued r.state p ch + sends_all (credit_on ch) p r.actions ≡ meters.queued x p ch + takes (packet_on ch) p why
 
-  -- ports have the same channels, and queues hold the same
+  -- ports have the same channels, queues hold the same, and as many credits may be had
   pub record SameRoom (x y : S) : Type 0 where
     pub channels : (p : ℕ) → meters.channels y p ≡ meters.channels x p
     pub capacity : (p ch : ℕ) → ch < meters.channels x p → meters.capacity y p ch ≡ meters.capacity x p ch
+    pub limit : (p ch : ℕ) → ch < meters.channels x p → meters.limit y p ch ≡ meters.limit x p ch
 
 -- what may be of a kind's elements, beside what their calls tell
 pub record Allowed (S L : Type 0) : Type 1 where
@@ -220,4 +224,4 @@ module _ {S L : Type 0} (kind : Kind S L) (allowed : Allowed S L) where
     -- an element that is begun and fits can be read, by any with its settings, and so can a load that fits
     pub alike_read : (first x : S) → kind.Alike first x → saving.IsOf x x → saving.IsOf first x
     pub states_saved : (x : S) (at : ℕ) → at ≤ 2 ^ 62 → allowed.holds x → kind.begun x ≡ true → kind.fits x at ≡ true → saving.IsOf x x
-    pub loads_saved : (x : S) (why : Cause L) (at : ℕ) → allowed.holds x → MayHear kind x at why → CauseIsOf saving x why
+    pub loads_saved : (x : S) (why : Cause L) (at : ℕ) → at ≤ 2 ^ 62 → allowed.holds x → MayHear kind x at why → CauseIsOf saving x why

@@ -46,6 +46,7 @@ module _ {S : Type 0} (L : Type 0) (stats : S → List Entry) where
     fits_load = λ x why at. false;
     channels = λ x p. 0;
     flow = λ x p ch. record { credits = 0; queued = 0; capacity = 0 };
+    limit = λ x p ch. 0;
     weight = λ y. None;
     stats = stats;
     Alike = λ x y. y ≡ x;
@@ -97,5 +98,5 @@ module _ {S : Type 0} (L : Type 0) (stats : S → List Entry) where
     handled_alike = λ x now why m. refl;
     alike_read = λ first x a is. a;
     states_saved = λ x at early h b f. refl;
-    loads_saved = not_heard;
+    loads_saved = λ x why at early h m. not_heard x why at h m;
   }

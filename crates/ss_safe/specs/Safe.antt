@@ -120,14 +120,16 @@ module _ {L : Type 0} (m : L → ℕ) where
   weight_at l e = gate ((e.key.class == 2) && (e.key.line == l)) (carried e.load)
 
 module _ {S L : Type 0} (meters : Meters S L) where
-  -- a line into a port with channels has a way back, and both ends have the same channels
-  pub record HasBack (w : Wiring) (xs : List S) (l a p b q : ℕ) (y : S) : Type 0 where
+  -- a line into a port with channels has a way back, both ends have the same channels, and the sender may have as many credits
+  -- as the receiver's queue can hold
+  pub record HasBack (w : Wiring) (xs : List S) (l a p b q ch : ℕ) (y : S) : Type 0 where
     pub way : ℕ
     pub pair : IsPair w l way a p b q
     pub same : (x : S) → slice_get xs a ≡ Some x → meters.channels x p ≡ meters.channels y q
+    pub limit : (x : S) → slice_get xs a ≡ Some x → meters.limit x p ch ≡ meters.capacity y q ch
 
   abbrev pub Paired : Wiring → List S → Type 0
-  Paired w xs = (l ch : ℕ) (link : LinkLine) (y : S) → slice_get w.links l ≡ Some link → slice_get xs link.receiver ≡ Some y → ch < meters.channels y link.in_port → HasBack w xs l link.sender link.out_port link.receiver link.in_port y
+  Paired w xs = (l ch : ℕ) (link : LinkLine) (y : S) → slice_get w.links l ≡ Some link → slice_get xs link.receiver ≡ Some y → ch < meters.channels y link.in_port → HasBack w xs l link.sender link.out_port link.receiver link.in_port ch y
 
   -- the credits of a line's sender, the packets on the line, those in the receiver's queue, and the credits on the
   -- way back are what that queue can hold

@@ -141,7 +141,7 @@ module _ {S L : Type 0} (kind : Kind S L) (allowed : Allowed S L) (laws : KindLa
         early = early;
         heard = hear_now x why (heard.0 c why x t g);
         due = is_due c x g why t (told_as w e c why t);
-        room = has_room (meters_of kind) w s.components e rest c why x t g safe.paired balanced safe.wires.ends (λ d p ch y gy in_range. laws.capacity_fits y p ch (safe.holds d y gy) in_range);
+        room = has_room (meters_of kind) w s.components e rest c why x t g safe.paired balanced safe.wires.ends;
       }
 
       keeps : Keeps kind allowed x e.key.time why (kind.handled x e.key.time why)
@@ -319,9 +319,9 @@ module _ {S L : Type 0} (kind : Kind S L) (allowed : Allowed S L) (laws : KindLa
   }
 
   module _ (saving : Saving S L) (saves : KindSaves kind allowed saving) where
-    all_of : (w : Wiring) (xs : List S) (at : ℕ) (hold : (c : ℕ) (x : S) → slice_get xs c ≡ Some x → allowed.holds x) (es : List (Event L)) → Each (IsHeard kind allowed w xs at) es → AllAreOf saving w xs es
-    all_of w xs at hold [] h = tt
-    all_of w xs at hold (e ∷ es) h = (λ c why x t g. saves.loads_saved x why at (hold c x g) (h.0 c why x t g), all_of w xs at hold es h.1)
+    all_of : (w : Wiring) (xs : List S) (at : ℕ) (early : at ≤ 2 ^ 62) (hold : (c : ℕ) (x : S) → slice_get xs c ≡ Some x → allowed.holds x) (es : List (Event L)) → Each (IsHeard kind allowed w xs at) es → AllAreOf saving w xs es
+    all_of w xs at early hold [] h = tt
+    all_of w xs at early hold (e ∷ es) h = (λ c why x t g. saves.loads_saved x why at early (hold c x g) (h.0 c why x t g), all_of w xs at early hold es h.1)
 
     pub saved_of : (weighs : L → Option (Bool × ℕ × ℕ)) (spells : L → List ℕ) → ((y : L) → kind.weight y ≡ weighs y) → ((y : L) → saving.spell_load y ≡ spells y) → SavingLaws kind saving (Safe kind allowed) weighs spells
     saved_of weighs spells weights spellings = record {
@@ -334,7 +334,7 @@ module _ {S L : Type 0} (kind : Kind S L) (allowed : Allowed S L) (laws : KindLa
       handled_alike = saves.handled_alike;
       alike_read = saves.alike_read;
       states_saved = λ w now s c x safe g b. saves.states_saved x (now + 1) (let soon = safe.early in omega (arith, soon)) (safe.holds c x g) b (safe.elements c x g);
-      loads_saved = λ w now s safe. all_of w s.components (now + 1) safe.holds s.pending safe.heard;
+      loads_saved = λ w now s safe. all_of w s.components (now + 1) (let soon = safe.early in omega (arith, soon)) safe.holds s.pending safe.heard;
       weights = weights;
       spellings = spellings;
     }

@@ -56,7 +56,8 @@ set_settings [] i v = refl
 set_settings (e ∷ set) zero v = ap (λ b. (e.0, b) ∷ map settings set) (value_settings e.1 v)
 set_settings (e ∷ set) (suc i) v = ap (λ l. settings e ∷ l) (set_settings set i v)
 
-added_settings : (set : List Entry) (o : Option ℕ) (v : ℕ) → map settings (added set o v) ≡ map settings set
+-- a value changes no settings
+pub added_settings : (set : List Entry) (o : Option ℕ) (v : ℕ) → map settings (added set o v) ≡ map settings set
 added_settings set None v = refl
 added_settings set (Some i) v = set_settings set i v
 
@@ -93,7 +94,7 @@ set_fits [] i v small h = h
 set_fits (e ∷ set) zero v small h = ((refl, value_fits e.1 v small h.0.1), h.1)
 set_fits (e ∷ set) (suc i) v small h = (h.0, set_fits set i v small h.1)
 
-added_fits : (set : List Entry) (o : Option ℕ) (v : ℕ) → v < 2 ^ 64 → StatsFit set → StatsFit (added set o v)
+pub added_fits : (set : List Entry) (o : Option ℕ) (v : ℕ) → v < 2 ^ 64 → StatsFit set → StatsFit (added set o v)
 added_fits set None v small h = h
 added_fits set (Some i) v small h = set_fits set i v small h
 

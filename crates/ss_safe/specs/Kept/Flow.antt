@@ -130,8 +130,8 @@ sum_stays credits credits' queued queued' room room' sent back came given ahead 
 room_in : (credits at_l rest queued behind room packet : ℕ) → at_l ≡ packet → credits + (at_l + rest) + queued + behind ≡ room → queued + packet ≤ room
 room_in credits at_l rest queued behind room packet e h = omega (arith, e, h)
 
-credit_in : (credits ahead queued at_k rest room credit : ℕ) → at_k ≡ credit → credits + ahead + queued + (at_k + rest) ≡ room → room < 2 ^ 32 → credits + credit < 2 ^ 32
-credit_in credits ahead queued at_k rest room credit e h l = omega (arith, e, h, l)
+credit_in : (credits ahead queued at_k rest room limit credit : ℕ) → at_k ≡ credit → credits + ahead + queued + (at_k + rest) ≡ room → limit ≡ room → credits + credit ≤ limit
+credit_in credits ahead queued at_k rest room limit credit e h l = omega (arith, e, h, l)
 
 module _ {S L : Type 0} (meters : Meters S L) (w : Wiring) (xs : List S) (e : Event L) (rest : List (Event L)) (c : ℕ) (why : Cause L) (x : S) (t : told w e ≡ Some (c, why)) (g : slice_get xs c ≡ Some x) where
   module _ (r : Reaction S L) (keeps : FlowKeeps meters x why r) (room : SameRoom meters x r.state) where
@@ -143,6 +143,7 @@ module _ {S L : Type 0} (meters : Meters S L) (w : Wiring) (xs : List S) (e : Ev
       credits : (p ch : ℕ) → ch < meters.channels was p → meters.credits z p ch + gate (eqb c d) (sends_all (packet_on meters ch) p r.actions) ≡ meters.credits was p ch + gate (eqb c d) (takes (credit_on meters ch) p why)
       queued : (p ch : ℕ) → ch < meters.channels was p → meters.queued z p ch + gate (eqb c d) (sends_all (credit_on meters ch) p r.actions) ≡ meters.queued was p ch + gate (eqb c d) (takes (packet_on meters ch) p why)
       capacity : (p ch : ℕ) → ch < meters.channels was p → meters.capacity z p ch ≡ meters.capacity was p ch
+      limit : (p ch : ℕ) → ch < meters.channels was p → meters.limit z p ch ≡ meters.limit was p ch
 
     side : (d : ℕ) (z : S) → slice_get (slice_set xs c r.state) d ≡ Some z → Side d z
     side d z h = by_component (after xs c x r.state d z g h)
@@ -159,6 +160,7 @@ module _ {S L : Type 0} (meters : Meters S L) (w : Wiring) (xs : List S) (e : Ev
               let mine = subst (λ y. meters.queued y p ch + sends_all (credit_on meters ch) p r.actions ≡ meters.queued x p ch + takes (packet_on meters ch) p why) is_new (keeps.queued p ch in_range) in
               omega (arith, mine, gate-same c d (sends_all (credit_on meters ch) p r.actions) same, gate-same c d (takes (packet_on meters ch) p why) same);
           capacity = λ p ch in_range. subst (λ y. meters.capacity y p ch ≡ meters.capacity x p ch) is_new (room.capacity p ch in_range);
+          limit = λ p ch in_range. subst (λ y. meters.limit y p ch ≡ meters.limit x p ch) is_new (room.limit p ch in_range);
         }
         by_component (stays other is_old) = record {
           was = z;
@@ -167,16 +169,22 @@ module _ {S L : Type 0} (meters : Meters S L) (w : Wiring) (xs : List S) (e : Ev
           credits = λ p ch in_range. omega (arith, gate-other c d (sends_all (packet_on meters ch) p r.actions) other, gate-other c d (takes (credit_on meters ch) p why) other);
           queued = λ p ch in_range. omega (arith, gate-other c d (sends_all (credit_on meters ch) p r.actions) other, gate-other c d (takes (packet_on meters ch) p why) other);
           capacity = λ p ch in_range. refl;
+          limit = λ p ch in_range. refl;
         }
 
     pub paired_kept : Paired meters w xs → Paired meters w (slice_set xs c r.state)
     paired_kept old l ch link y is gy in_range =
         let b = side link.receiver y gy in
-        let back = old l ch link b.was is b.there (let same = b.channels link.in_port in omega (arith, in_range, same)) in
+        let below : ch < meters.channels b.was link.in_port = (let same = b.channels link.in_port in omega (arith, in_range, same)) in
+        let back = old l ch link b.was is b.there below in
         record {
           way = back.way;
           pair = back.pair;
           same = λ z gz. let a = side link.sender z gz in a.channels link.out_port ∙ back.same a.was a.there ∙ sym (b.channels link.in_port);
+          limit = λ z gz.
+              let a = side link.sender z gz in
+              let same = back.same a.was a.there in
+              a.limit link.out_port ch (omega (arith, below, same)) ∙ back.limit a.was a.there ∙ sym (b.capacity link.in_port ch below);
         }
 
     pub balanced_kept : Balanced meters w xs (e ∷ rest) → Balanced meters w (slice_set xs c r.state) (insert_all (again w c e.key.time why r.actions) (insert_all (made_all w c e.key.time r.actions) rest))
@@ -199,8 +207,8 @@ module _ {S L : Type 0} (meters : Meters S L) (w : Wiring) (xs : List S) (e : Ev
         (old l ch k a p b q here.was over.was pair here.there over.there in_here in_over)
 
   -- there is room for what comes
-  pub has_room : Paired meters w xs → Balanced meters w xs (e ∷ rest) → ((n : ℕ) (l : LinkLine) → slice_get w.links n ≡ Some l → l.receiver < length xs) → ((d p ch : ℕ) (y : S) → slice_get xs d ≡ Some y → ch < meters.channels y p → meters.capacity y p ch < 2 ^ 32) → HasRoom meters x why
-  has_room paired old ends bound = by_cause why (told_as w e c why t)
+  pub has_room : Paired meters w xs → Balanced meters w xs (e ∷ rest) → ((n : ℕ) (l : LinkLine) → slice_get w.links n ≡ Some l → l.receiver < length xs) → HasRoom meters x why
+  has_room paired old ends = by_cause why (told_as w e c why t)
     where
       by_cause : (why : Cause L) → ToldAs w e.key.class e.key.line e.load c why → HasRoom meters x why
       by_cause cause.Start k = tt
@@ -223,9 +231,13 @@ module _ {S L : Type 0} (meters : Meters S L) (w : Wiring) (xs : List S) (e : Ev
           let other = old back.way ch n lk.receiver lk.in_port lk.sender lk.out_port x z (record { ahead = back.pair.back; back = back.pair.ahead }) gx gz below_x below_z in
           let packet = weight_taken L (packet_on meters ch) w n lk.sender lk.out_port lk.receiver lk.in_port back.pair.ahead e c (cause.Link p y) k ∙ gate-same c lk.receiver (gate (eqb p lk.in_port) (packet_on meters ch y)) (sym f.2) ∙ gate-same p lk.in_port (packet_on meters ch y) (sym f.3) in
           let credit = weight_taken L (credit_on meters ch) w n lk.sender lk.out_port lk.receiver lk.in_port back.pair.ahead e c (cause.Link p y) k ∙ gate-same c lk.receiver (gate (eqb p lk.in_port) (credit_on meters ch y)) (sym f.2) ∙ gate-same p lk.in_port (credit_on meters ch y) (sym f.3) in
-          let most = bound lk.sender lk.out_port ch z gz below_z in
-          let Room : ℕ → Type 0 = λ o. (meters.queued x o ch + packet_on meters ch y ≤ meters.capacity x o ch) × (meters.credits x o ch + credit_on meters ch y < 2 ^ 32) in
-          subst Room f.3 (room_in _ _ _ _ _ _ _ packet ahead, credit_in _ _ _ _ _ _ _ credit other most)
+          let forth = paired back.way ch back.pair.back.link z back.pair.back.is (ap (slice_get xs) back.pair.back.receiver ∙ gz) (subst (λ o. ch < meters.channels z o) (sym back.pair.back.in_port) below_z) in
+          let most : meters.limit x lk.in_port ch ≡ meters.capacity z lk.out_port ch =
+              ap (λ o. meters.limit x o ch) (sym back.pair.back.out_port)
+              ∙ forth.limit x (ap (slice_get xs) back.pair.back.sender ∙ gx)
+              ∙ ap (λ o. meters.capacity z o ch) back.pair.back.in_port in
+          let Room : ℕ → Type 0 = λ o. (meters.queued x o ch + packet_on meters ch y ≤ meters.capacity x o ch) × (meters.credits x o ch + credit_on meters ch y ≤ meters.limit x o ch) in
+          subst Room f.3 (room_in _ _ _ _ _ _ _ packet ahead, credit_in _ _ _ _ _ _ _ _ credit other most)
 
 -- outside of networks, where no port has channels, nothing flows
 module _ {S L : Type 0} (kind : Kind S L) (none : (x : S) (p : ℕ) → kind.channels x p ≡ 0) where
@@ -239,6 +251,7 @@ module _ {S L : Type 0} (kind : Kind S L) (none : (x : S) (p : ℕ) → kind.cha
   no_room x y = record {
     channels = λ p. none y p ∙ sym (none x p);
     capacity = λ p ch in_range. absurd (omega (arith, in_range, none x p));
+    limit = λ p ch in_range. absurd (omega (arith, in_range, none x p));
   }
 
   -- nor are there lines with channels between such elements, nor credits
