@@ -1,0 +1,10 @@
+pub mod Lanes
+pub mod Judging
+pub mod Fitting
+pub mod Alike
+pub mod Small
+pub mod Steps
+pub mod Telling
+pub mod Saving
+pub mod Done
+pub mod Fresh

@@ -1,0 +1,6 @@
+pub mod Pattern
+pub mod Saved
+pub mod Endpoint
+pub mod Kind
+pub mod Kept
+pub mod Laws
