@@ -1,0 +1,4 @@
+pub mod Through
+pub mod Marks
+pub mod Laws
+pub mod Spelling
