@@ -233,9 +233,9 @@ module _ {S L : Type 0} (meters : Meters S L) (w : Wiring) (xs : List S) (e : Ev
           let credit = weight_taken L (credit_on meters ch) w n lk.sender lk.out_port lk.receiver lk.in_port back.pair.ahead e c (cause.Link p y) k ∙ gate-same c lk.receiver (gate (eqb p lk.in_port) (credit_on meters ch y)) (sym f.2) ∙ gate-same p lk.in_port (credit_on meters ch y) (sym f.3) in
           let forth = paired back.way ch back.pair.back.link z back.pair.back.is (ap (slice_get xs) back.pair.back.receiver ∙ gz) (subst (λ o. ch < meters.channels z o) (sym back.pair.back.in_port) below_z) in
           let most : meters.limit x lk.in_port ch ≡ meters.capacity z lk.out_port ch =
-              ap (λ o. meters.limit x o ch) (sym back.pair.back.out_port)
-              ∙ forth.limit x (ap (slice_get xs) back.pair.back.sender ∙ gx)
-              ∙ ap (λ o. meters.capacity z o ch) back.pair.back.in_port in
+          ap (λ o. meters.limit x o ch) (sym back.pair.back.out_port)
+          ∙ forth.limit x (ap (slice_get xs) back.pair.back.sender ∙ gx)
+          ∙ ap (λ o. meters.capacity z o ch) back.pair.back.in_port in
           let Room : ℕ → Type 0 = λ o. (meters.queued x o ch + packet_on meters ch y ≤ meters.capacity x o ch) × (meters.credits x o ch + credit_on meters ch y ≤ meters.limit x o ch) in
           subst Room f.3 (room_in _ _ _ _ _ _ _ packet ahead, credit_in _ _ _ _ _ _ _ _ credit other most)
 
