@@ -66,7 +66,7 @@ multiple_least period t one =
           omega arith;
     }
 
-multiple_first : (o : Option ℕ) (t : ℕ) → SpanFits o → IsFirst (Above (OnPeriod o) t) (multiple_above o t)
+pub multiple_first : (o : Option ℕ) (t : ℕ) → SpanFits o → IsFirst (Above (OnPeriod o) t) (multiple_above o t)
 multiple_first None t f = λ m h. h.0
 multiple_first (Some period) t f = multiple_least period t f.0
 

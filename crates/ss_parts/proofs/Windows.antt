@@ -1,5 +1,5 @@
 -- The theorems on runs in parts.
-use Rattle.std.proofs.Common.{◌≡◌, ℕ, zero, suc, ◌+◌, ◌<◌, ◌^◌, List, ◌∷◌, ◌++◌, Bool, Option, Some, None, refl, sym, ap, ◌∙◌, subst, arith}
+use Rattle.std.proofs.Common.{◌≡◌, ℕ, zero, suc, ◌+◌, ◌<◌, ◌^◌, List, ◌∷◌, ◌++◌, Bool, true, false, Option, Some, None, refl, sym, ap, ◌∙◌, subst, arith}
 use Rattle.std.specs.Prelude.{slice_get}
 use Rattle.ss_model.specs.declared.Key.{Key}
 use Rattle.ss_model.specs.declared.Event.{Event}
@@ -12,7 +12,9 @@ use Rattle.ss_model.specs.End.{Limits}
 use Rattle.ss_model.specs.End as run_end
 use Rattle.ss_element.specs.Kind.{Kind, behaviour, ActionsFit}
 use Rattle.ss_element.specs.World as element
+use Rattle.ss_window.specs.declared.Cuts.{Cuts}
 use Rattle.ss_window.specs.Cuts.{MayEnd}
+use Rattle.std.specs.List.{list_any}
 use Rattle.ss_window.specs.Least.{IsLeast, OnPeriod}
 use Rattle.ss_theory.specs.World.{World, Global, Part, Laws, Ready, AreStepsOf, IsStepOf, IsAtEnd, after, lines, part_step}
 use Rattle.ss_theory.specs.Rounds.{Moment, Cutting, CuttingLaws}
@@ -23,7 +25,7 @@ use Rattle.ss_theory.proofs.Least as least
 use Rattle.ss_theory.proofs.Bounds as bounds
 use Rattle.ss_theory.proofs.Agreement as agreement
 use Rattle.ss_parts.specs.Parts.{world, glob, receiver, sender, state_of, part_at}
-use Rattle.ss_parts.specs.Division.{Division, MayRun, IsSafe, all_idle, part_idle, beginning, CanStep, CanRun, window_end}
+use Rattle.ss_parts.specs.Division.{Division, MayRun, IsSafe, all_idle, part_idle, beginning, CanStep, CanRun, window_end, IsCutBy, HasWindows}
 use Rattle.ss_parts.specs.Windows.{RunsAlone, ComesLate, Exchanges, TellsNext, AreWindows, IsCounted, EndsAtCuts, KeepsBounds}
 use Rattle.ss_parts.specs.Cutting.{cutting}
 use Rattle.ss_parts.proofs.Found.{told_end}
@@ -185,4 +187,25 @@ module _ {S L : Type 0} (kind : Kind S L) (Safe : Wiring → ℕ → State S L �
         comes = λ k n.
             let r = agreement.comes_to_bound V SafeIn d.look (2 ^ 62) the_laws idle keeps C the_cuts a al start begins refl k n.last n.opened n.over f q x in
             (r.steps, until_same kind.handled w d.part_of q r.steps s r.until, r.is ∙ sym (after_same kind.handled w d.part_of r.steps s));
+      }
+
+  -- ---- agreement at the end
+
+  pub record Agreed (c : Cuts) (since : Option ℕ) (f : Bool) (q : ℕ) : Type 0 where
+    pub yes : f ≡ true → (t : ℕ) × (since ≡ Some t) × (t < q) × OnPeriod c.exit q
+    pub no : f ≡ false → (t : ℕ) → since ≡ Some t → OnPeriod c.exit q → t < q → ⊥
+
+  pub agreed_at : (l : Limits) (f : Bool) (q : ℕ) → IsCutBy l d.cuts (list_any kind.primary s.components) → run_end.IsBound (behaviour kind) w l s f q → (k : ℕ) (n : HasWindows kind w d s k) → Agreed d.cuts n.last.since f q
+  agreed_at l f q by b k n =
+      let x = bound_to kind Safe rests w d.part_of s l d.cuts by f q b in
+      let a : rounds.Asking = record { asked = OnPeriod d.cuts.exit; origin = d.cuts.origin; stop = d.cuts.stop } in
+      let al = asking_laws d.cuts m.cuts d.look in
+      let keeps = done_laws kind Safe rests w d.part_of d.look m.ahead in
+      record {
+        yes = λ e.
+            let y = subst (λ g. rounds.IsBound V idle a start.whole g q) e x in
+            let t = agreement.agreed_since V SafeIn d.look (2 ^ 62) the_laws idle keeps C the_cuts a al start begins refl k n.last n.opened n.over q y in
+            (t.0, t.1, t.2, y.asked.asked);
+        no = λ e t since asked lt.
+            agreement.not_agreed V SafeIn d.look (2 ^ 62) the_laws idle keeps C the_cuts a al start begins refl k n.last n.opened n.over q (subst (λ g. rounds.IsBound V idle a start.whole g q) e x) t since asked lt;
       }

@@ -205,3 +205,24 @@ module _ {W X K E T : Type 0} (v : World W X K E T) (Safe : W → List E → Typ
       let le : s.bound ≤ q = let p : s.bound ≤ c.known m.since = s.below in omega arith in
       let z : r.steps + 0 ≡ r.steps = omega arith in
       record { steps = r.steps; until = subst (λ n. IsUntil v q n start.whole) z (until_append v Safe look limit laws s.bound q r.steps 0 start.whole le r.until none); is = r.is }
+
+  -- where the agreement sets the bound, all is done since a time before it
+  pub agreed_since : (k : ℕ) (m : Moment W E) → Opened k m → IsOver v done c m → (q : ℕ) → Bound true q → (t : ℕ) × (m.since ≡ Some t) × (t < q)
+  agreed_since k m o over q b = go m.since (since_is k m o) refl
+    where
+      none : NoneBelow v q m.whole.pending
+      none = subst (λ t. NoneBelow v t m.whole.pending) (over_bound k m o over true q b) over
+
+      go : (s : Option ℕ) → IsSince s (done m.whole.state) → m.since ≡ s → (t : ℕ) × (m.since ≡ Some t) × (t < q)
+      go None h e = let w : q ≤ a.stop = b.asked.within in let l : a.stop ≤ limit = stop_limit in absurd (false≢true (sym h ∙ agreed_now q (omega arith) b.agrees k m o none))
+      go (Some t) h e = (t, e, elim (cases_lt t q) [ inl lt ↦ lt | inr le ↦ absurd (h.never q b.asked.above le b.agrees) ])
+
+  -- and otherwise no time at which it is asked, above the one since when all is done, is the bound
+  pub not_agreed : (k : ℕ) (m : Moment W E) → Opened k m → IsOver v done c m → (q : ℕ) → Bound false q → (t : ℕ) → m.since ≡ Some t → a.asked q → t < q → ⊥
+  not_agreed k m o over q b t e asked lt =
+      let h : SinceHolds t = subst (λ s. IsSince s (done m.whole.state)) e (since_is k m o) in
+      let same : c.known (Some t) ≡ q = ap c.known (sym e) ∙ over_bound k m o over false q b in
+      let f : a.origin ≤ t = h.from in
+      let s : q ≡ a.stop = b.0 in
+      let agrees : Agrees q = subst (λ n. Agrees n) same (agreed_later h.upon (c.known (Some t)) h.below (cl.early (Some t)) h.agrees) in
+      b.1 q (record { asked = asked; above = omega arith; within = omega arith }) agrees

@@ -3,7 +3,7 @@ use Rattle.std.proofs.Common.{◌≡◌, ℕ, zero, suc, ◌+◌, ◌≤◌, Lis
 use Rattle.std.specs.List.{filter, AllByRecursion as Each}
 use Rattle.std.proofs.lemmas.Bool.{false≢true, eqb-true, eq-eqb}
 use Rattle.ss_theory.specs.Queue.{insert_all, is_at, batches, has, IsOnce}
-use Rattle.ss_theory.specs.World.{World, Global, Part, before, time_of, dst_of, src_of, crosses, line_before, HasBelow, NoneBelow, step, IsUntil, lines, across, part_after, IsPartUntil, projection, Laws, IsAtEnd, take_in, Ready, AreStepsOf}
+use Rattle.ss_theory.specs.World.{World, Global, Part, before, time_of, dst_of, src_of, crosses, line_before, HasBelow, NoneBelow, step, IsUntil, lines, across, part_after, part_last, last_for, IsPartUntil, projection, Laws, IsAtEnd, take_in, Ready, AreStepsOf}
 use Rattle.ss_theory.specs.Rounds.{Cutting, CuttingLaws, Moment, window_end, end_at, moved, Leads, IsOpened, IsPartAt, IsPartDone, IsBatch}
 use Rattle.ss_theory.proofs.Lists.{each_append, each_filter, each_map2, each_passes, filter_swap}
 use Rattle.ss_theory.proofs.Colours.{same_batches, all_batches}
@@ -69,6 +69,15 @@ module _ {W X K E T : Type 0} (v : World W X K E T) (Safe : W → List E → Typ
       let f = first_ready g.since r.0 g.whole.state g.whole.pending r.1 in
       let d = window_done v Safe look limit laws f.0 (upto g) g.whole f.1 (end_limit g) f.2 in
       (d.0, d.1, λ p m u. (d.2 p m u).0)
+
+  -- and the time of its last event is that of the whole's steps in it
+  pub opened_last : (k : ℕ) (g : Moment W E) → Opened k g →
+      (n : ℕ) × IsUntil v (upto g) n g.whole × ((p m : ℕ) → IsPartUntil v p (upto g) m (projection v g.whole p) → (z : ℕ) → part_last v p m (projection v g.whole p) z ≡ last_for v p n g.whole z)
+  opened_last k g o =
+      let r = opened_ready k g o in
+      let f = first_ready g.since r.0 g.whole.state g.whole.pending r.1 in
+      let d = window_done v Safe look limit laws f.0 (upto g) g.whole f.1 (end_limit g) f.2 in
+      (d.0, d.1, λ p m u. (d.2 p m u).1)
 
   -- a part comes to the window's end, by steps that the whole does too
   pub part_runs : (p k : ℕ) (l : Part X E T) (at : IsPartAt v done c start p k l) → (n : ℕ) × IsPartUntil v p (upto at.moment) n l × AreStepsOf v Safe limit p n l

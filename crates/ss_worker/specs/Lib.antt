@@ -1,3 +1,4 @@
+pub mod Knowing
 pub mod Placed
 pub mod Sorted
 pub mod Standing
@@ -6,3 +7,4 @@ pub mod Batched
 pub mod Place
 pub mod Told
 pub mod Sound
+pub mod Outgoing

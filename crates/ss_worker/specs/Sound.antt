@@ -65,14 +65,14 @@ module _ {S L : Type 0} (kind : Kind S L) (m : Meaning S L) (r : RunSpec) (p : �
 
   -- the batches that are to be handed out are there
   pub record HasBatches (windows : ℕ) (handed : List Bool) (names : List (Option Name)) : Type 0 where
-    pub count : length names ≡ r.partition.parts
     pub there : (j : ℕ) → j < r.partition.parts → heard handed j ≡ false → slice_get names j ≡ Some (Some (named r p j (windows - 1)))
+    pub ran : (j : ℕ) → j < r.partition.parts → heard handed j ≡ false → 1 ≤ windows
 
   -- so many events were handed out to each other part
   pub record HasSent (windows : ℕ) (handed : List Bool) (sent : List ℕ) : Type 0 where
     pub count : length sent ≡ r.partition.parts
     pub each : (j : ℕ) → j < r.partition.parts → (j ≡ p → ⊥) → AreSent kind m r p j (if heard handed j then windows else windows - 1) (slice_index sent j)
-    pub few : (j : ℕ) → j < r.partition.parts → slice_index sent j ≤ windows * 2 ^ 64
+    pub few : (j : ℕ) → j < r.partition.parts → slice_index sent j ≤ (if heard handed j then windows else windows - 1) * 2 ^ 64
 
   pub record IsSound (windows : ℕ) (hs ts : List Bool) (gathered : Bool) (w : Wiring) (ahead : ℕ) (body : Standing S L) (k : Known) (ls : List (List Line)) : Type 0 where
     pub fits : IsFitting kind m r

@@ -75,3 +75,8 @@ abbrev pub IsStage : {S L : Type 0} → Kind S L → Meaning S L → Place → S
 IsStage kind m pl (stage.Ready w) = IsWhole pl × IsNext kind m pl.run pl.windows w
 IsStage kind m pl stage.Waiting = IsWhole pl → ⊥
 IsStage kind m pl stage.Over = IsWhole pl × HasWindows kind m pl.run pl.windows
+
+-- its next window, or none, since the run is over
+abbrev pub IsNextOrOver : {S L : Type 0} → Kind S L → Meaning S L → Place → Option Window → Type 0
+IsNextOrOver kind m pl None = HasWindows kind m pl.run pl.windows
+IsNextOrOver kind m pl (Some w) = IsNext kind m pl.run pl.windows w

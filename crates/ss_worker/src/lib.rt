@@ -10,6 +10,7 @@ mod known;
 mod mail;
 mod making;
 mod out;
+mod outgoing;
 mod stage;
 mod worker;
 
@@ -25,7 +26,7 @@ pub use stage::{Stage, Window};
 use std::alloc::{AllocError, Global};
 use std::marker::Model;
 use std::mem;
-pub use worker::Worker;
+pub use worker::{Gathered, Worker};
 
 /// A part of a simulation: some of its components with their numbers, the events that these receive, those
 /// that it sent to other parts, and the lines that it printed.
@@ -108,6 +109,13 @@ impl<E: Element> Part<E> {
         ensures rest { self.new ≡ standing self.old.part.state self.old.part.pending [] self.old.part.says self.old.last }
     {
         mem::replace(&mut self.mail.out, Vec::new(self.alloc))
+    }
+
+    /// The events that were sent to other parts since they were taken last. It takes no memory.
+    pub fn out(&self) -> &[Event<E::Load>]
+        ensures { result.now ≡ self.now.part.out }
+    {
+        &self.mail.out
     }
 
     /// The events that were sent to other parts since they were taken last, a batch for each of so many parts, each
