@@ -10,13 +10,16 @@ ghost use Rattle.ss_join.specs.declared.lead.LeadFault.TheVariants.{NoMemory};
 ghost use Rattle.ss_join.specs.Cutting.{Seen};
 ghost use Rattle.ss_join.specs.Joined.{Answers, Blames, limit_after, none_refused};
 
+mod exchange;
 mod lead;
+mod window;
 
 pub use lead::{Cut, Lead, LeadFault};
 use ss_run::Simulated;
 use ss_worker::Worker;
 use std::alloc::Global;
 use std::thread::Threads;
+use window::{advance, begins_in_time, ending, is_left};
 
 /// How a run ended: the time that its final line tells, in picoseconds, and how many windows it had.
 #[derive(Clone, Copy, Debug, PartialEq, Eq)]
@@ -25,18 +28,11 @@ pub struct Ending {
     pub windows: u64,
 }
 
-// Before its first cut a run may end with no memory.
-fn nothing_given<E: Simulated, D: Lead>(_lead: &D)
-    ensures { (run : RunSpec) → IsFitting E.kind E.meaning run → none_refused (D.seen _lead.now) ≡ None → Answers E.kind E.meaning run (Err NoMemory) (D.seen _lead.now) (D.seen _lead.now) }
-{}
-
 /// Runs a run's workers from its beginning to its end, each window on at most `hosts` threads, and hands the lines to
 /// the lead, window by window. The lines of all cuts are those of the run of one ordered list of events, and the
 /// workers then stand at its end, with nothing missing. After a fault the lines that the lead accepted, and behind
 /// them those of the cut that it refused, are a beginning of them, and the workers may only be let go. Where it
 /// answers `Failed` or `Limit`, the lead answered so in this call.
-///
-/// So far this body only answers that no memory is left.
 pub fn run_joined<T: Threads + Sync, E: Simulated + Send, D: Lead>(
     rt: &T,
     alloc: Global,
@@ -58,6 +54,15 @@ where
     ensures kept { D.faults lead.old ≤ D.faults lead.new }
     ensures limit { D.limit lead.new ≡ limit_after result }
 {
-    nothing_given::<E, D>(lead);
-    Err(LeadFault::NoMemory)
+    // No run begins before its last event. The last times of the parts would not tell that of the one list then.
+    if !begins_in_time(workers) {
+        return Err(LeadFault::NoMemory);
+    }
+    while is_left(workers) {
+        let Ok(cut) = advance(rt, alloc, workers, hosts) else {
+            return Err(LeadFault::NoMemory);
+        };
+        lead.cut(&cut)?;
+    }
+    Ok(ending(workers))
 }
