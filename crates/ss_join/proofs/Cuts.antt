@@ -1,17 +1,16 @@
 -- What a lead has seen, cut by cut.
-use Rattle.std.proofs.Common.{◌≡◌, ℕ, ◌<◌, ◌≤◌, ◌⊎◌, inl, inr, Bool, true, false, List, [], ◌∷◌, ◌++◌, Option, Some, None, Result, Ok, Err, refl, sym, ap, ◌∙◌, subst, append_assoc, append-nil, arith}
+use Rattle.std.proofs.Common.{◌≡◌, ℕ, ◌⊎◌, inl, inr, Bool, true, false, List, [], ◌∷◌, ◌++◌, Option, Some, None, Ok, Err, refl, sym, ap, ◌∙◌, subst, append_assoc, append-nil}
 use Rattle.std.specs.Prelude.{if◌then◌else◌, ◌||◌, is_some}
 use Rattle.ss_model.specs.Order.{next_key}
 use Rattle.ss_model.specs.Step.{State}
 use Rattle.std.proofs.lemmas.Grind.{flat_map-append}
 use Rattle.ss_model.specs.declared.Line.{Line}
 use Rattle.ss_element.specs.Kind.{Kind}
-use Rattle.ss_graph.specs.declared.fault.LimitKind.{LimitKind}
 use Rattle.ss_run.specs.declared.RunSpec.{RunSpec}
 use Rattle.ss_run.specs.Meaning.{Meaning}
 use Rattle.ss_join.specs.declared.lead.LeadFault.{LeadFault}
 use Rattle.ss_join.specs.declared.lead.LeadFault.TheVariants as fault
-use Rattle.ss_join.specs.Cutting.{Given, Seen, Told, Shows, lines_of, refused_lines, accepting, refusing}
+use Rattle.ss_join.specs.Cutting.{Given, Seen, Told, lines_of, refused_lines, refusing}
 use Rattle.ss_join.specs.Joined.{Saw, Breaks, none_refused, IsOutcome, run_lines}
 use Rattle.ss_model.specs.End.{Outcome, told_time}
 

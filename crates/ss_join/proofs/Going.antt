@@ -1,6 +1,5 @@
 -- A run that goes on, window by window.
-use Rattle.std.proofs.Common.{◌≡◌, ◌≤◌, ◌<◌, ◌+◌, ◌-◌, ◌^◌, ℕ, suc, List, [], ◌∷◌, ◌++◌, length, get_or, Option, Some, None, Result, Ok, Err, refl, sym, ap, ◌∙◌, subst, arith, append-nil, ◌⊎◌, inl, inr}
-use Rattle.ss_model.specs.declared.Line.{Line}
+use Rattle.std.proofs.Common.{◌≡◌, ◌≤◌, ◌<◌, ◌+◌, ◌-◌, ◌^◌, ℕ, suc, List, [], ◌∷◌, ◌++◌, Option, Some, None, Ok, Err, refl, sym, subst, arith, append-nil, inl, inr}
 use Rattle.ss_model.specs.Wiring.{Wiring}
 use Rattle.ss_model.specs.Step.{State}
 use Rattle.ss_model.specs.End.{Outcome, told_time, ended}
@@ -13,8 +12,8 @@ use Rattle.ss_worker.specs.Place.{Place, AllStandAt, first}
 use Rattle.ss_worker.specs.Told.{IsLeft}
 use Rattle.ss_join.specs.declared.lead.LeadFault.{LeadFault}
 use Rattle.ss_join.specs.declared.Ending.{Ending}
-use Rattle.ss_join.specs.Cutting.{Given, Seen, Told, lines_of, refused_lines}
-use Rattle.ss_join.specs.Joined.{Saw, IsOutcome, Breaks, Ends, none_refused, run_lines}
+use Rattle.ss_join.specs.Cutting.{Given, Seen, Told, lines_of}
+use Rattle.ss_join.specs.Joined.{Saw, IsOutcome, Breaks, Ends, none_refused}
 use Rattle.ss_join.specs.Between.{point_of, AreWindowLines}
 use Rattle.ss_join.proofs.Outcomes.{has_outcome}
 use Rattle.ss_join.proofs.Listed.{Lefts, IsBefore, at_first, one_more, some_lines, all_lines, lefts_more, few}

@@ -1,6 +1,6 @@
 -- The windows of a run, and the run of its one list.
-use Rattle.std.proofs.Common.{◌≡◌, ℕ, zero, suc, ◌+◌, ◌^◌, ◌<◌, ◌≤◌, List, [], ◌∷◌, ◌++◌, length, Bool, true, false, Option, Some, None, max, cond, eqb, refl, sym, ap, ◌∙◌, subst, arith, inl, inr, ◌⊎◌}
-use Rattle.std.specs.Prelude.{slice_index_or, slice_index, if◌then◌else◌}
+use Rattle.std.proofs.Common.{◌≡◌, ℕ, zero, suc, ◌+◌, ◌^◌, ◌<◌, ◌≤◌, List, [], ◌∷◌, ◌++◌, length, max, cond, eqb, refl, sym, ap, ◌∙◌, subst, arith, inl, inr, ◌⊎◌}
+use Rattle.std.specs.Prelude.{slice_index_or}
 use Rattle.std.specs.List.{flat_map, list_any}
 use Rattle.std.proofs.lemmas.Bool.{lt-ltb, cases_eq, eq-eqb, ne_eqb}
 use Rattle.ss_model.specs.declared.Key.{Key}
@@ -9,17 +9,16 @@ use Rattle.ss_model.specs.declared.Line.{Line}
 use Rattle.ss_model.specs.Order.{key_before}
 use Rattle.ss_model.specs.Wiring.{Wiring}
 use Rattle.ss_model.specs.Step.{State}
-use Rattle.ss_model.specs.End.{Outcome, ended, end_of}
+use Rattle.ss_model.specs.End.{Outcome, ended}
 use Rattle.ss_model.proofs.Runs.{until_one}
 use Rattle.ss_element.specs.Kind.{Kind, behaviour}
 use Rattle.ss_element.specs.World as element
-use Rattle.ss_merge.specs.Merge.{IsMerged}
-use Rattle.ss_theory.specs.Queue.{insert_all, batches, range_from, top, has, IsOnce, IsKeyOrder}
+use Rattle.ss_theory.specs.Queue.{insert_all, batches, range_from, top, IsKeyOrder}
 use Rattle.ss_theory.specs.World.{World, Global, before, line_before, time_of, HasBelow, NoneBelow, step, after, IsUntil, lines, last, last_at, last_for, Laws, Ready}
 use Rattle.ss_theory.specs.Rounds.{Moment}
 use Rattle.ss_theory.proofs.Stable.{stable_sort, ordered_by_index}
 use Rattle.ss_theory.proofs.Steps.{by_order, ready_step}
-use Rattle.ss_theory.proofs.Theorems.{none_left, after_append, lines_append, last_top, top_same}
+use Rattle.ss_theory.proofs.Theorems.{none_left, after_append, lines_append, last_top}
 use Rattle.ss_theory.proofs.Ranges.{range_order}
 use Rattle.ss_theory.proofs.Rounds as on
 use Rattle.ss_theory.proofs.Bounds as bounds
@@ -32,7 +31,7 @@ use Rattle.ss_parts.proofs.Windows as windows
 use Rattle.ss_run.specs.declared.RunSpec.{RunSpec}
 use Rattle.ss_run.specs.Meaning.{Meaning, MeaningLaws}
 use Rattle.ss_run.specs.Run.{division, wires_of, start_of, limits, view, PartState, IsFitting, IsAt, window_end, known, IsPartDone, HasWindows}
-use Rattle.ss_worker.specs.Told.{IsLeft, IsLast, AreLines}
+use Rattle.ss_worker.specs.Told.{IsLeft, IsLast}
 use Rattle.ss_worker.proofs.Course as course
 use Rattle.ss_join.specs.Joined.{IsOutcome, run_lines}
 use Rattle.ss_join.specs.Between.{AreWindowLines, IsGreatestLast}

@@ -2,11 +2,11 @@
 use Rattle.std.proofs.Common.{◌≡◌, ◌≢◌, ℕ, zero, suc, ◌+◌, ◌<◌, ◌≤◌, ◌⊎◌, inl, inr, Bool, true, false, ◌&&◌, ◌||◌, ◌==◌, nat_lt, List, [], ◌∷◌, length, get_or, refl, sym, ap, ◌∙◌, subst, arith, get_or-set_other, get_or-set_same, length-set, Some, None, Result, Ok, Err, OnOk}
 use Rattle.std.specs.Prelude.{slice_set, slice_get, slice_index_or, replicate}
 use Rattle.std.specs.List.{list_any}
-use Rattle.std.proofs.lemmas.Bool.{cases_Bool, cases_eq, eq-eqb, ne_eqb, lt-ltb, le-ltb, false≢true}
+use Rattle.std.proofs.lemmas.Bool.{cases_Bool, cases_eq, eq-eqb, ne_eqb, lt-ltb, le-ltb}
 use Rattle.std.proofs.lemmas.Bool.Decides.{nat_tests}
 use Rattle.std.proofs.lemmas.Option.{slice_get_cases}
 use Rattle.ss_run.specs.declared.RunSpec.{RunSpec}
-use Rattle.ss_worker.specs.Place.{Place, IsWhole, StandsAt, AllStandAt, all_set, only, after_window, after_out, after_in, after_gathering, broken}
+use Rattle.ss_worker.specs.Place.{Place, IsWhole, StandsAt, AllStandAt, all_set, only, after_window, after_out, after_in, after_gathering}
 use Rattle.ss_join.specs.Between.{Point, HasRun, AllRun, gave, IsBetween, AllBetween}
 
 -- ---- who gave to whom

@@ -1,6 +1,5 @@
-use Rattle.std.proofs.Common.{◌≡◌, ◌≤◌, ◌+◌, ℕ, None, Err, rules, refl, sym, ap, ◌∙◌, subst, arith}
+use Rattle.std.proofs.Common.{◌≤◌, Err, rules, sym, ap, ◌∙◌, subst, arith}
 use Rattle.std.proofs.lemmas.Result.{err_from_is_err_and}
-use Rattle.ss_run.specs.Run.{start_of}
 use Rattle.ss_worker.specs.Place.{AllStandAt}
 use Rattle.ss_worker.specs.Told.{IsLeft}
 use Rattle.ss_join.specs.Between.{point_of}

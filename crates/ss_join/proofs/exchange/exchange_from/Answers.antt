@@ -1,4 +1,4 @@
-use Rattle.std.proofs.Common.{◌≡◌, ◌<◌, ℕ, ◌+◌, sym, ap, ◌∙◌, arith}
+use Rattle.std.proofs.Common.{◌≡◌, ◌<◌, ap, ◌∙◌, arith}
 use Rattle.ss_worker.specs.Sound.{Name}
 use Rattle.ss_join.proofs.Mixed.{found, taker_misses, given_by, skipped_at}
 use Rattle.ss_join.proofs.exchange.exchange_from.Goals as goal

@@ -1,7 +1,6 @@
-use Rattle.std.proofs.Common.{◌≡◌, ℕ, Some, None, Option, refl, sym, ap, ◌∙◌, subst, arith}
+use Rattle.std.proofs.Common.{sym, ◌∙◌, subst}
 use Rattle.ss_model.specs.End.{ended}
 use Rattle.ss_element.specs.Kind.{behaviour}
-use Rattle.ss_run.specs.declared.RunSpec.{RunSpec}
 use Rattle.ss_run.specs.Run.{HasWindows, wires_of, start_of}
 use Rattle.ss_worker.specs.Told.{IsTold}
 use Rattle.ss_join.proofs.Mixed.{first_stands}

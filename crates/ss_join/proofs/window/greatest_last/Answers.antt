@@ -1,4 +1,4 @@
-use Rattle.std.proofs.Common.{◌≡◌, ◌<◌, ℕ, List, length, get_or, max, refl, sym, ap, ◌∙◌, subst, arith}
+use Rattle.std.proofs.Common.{◌≡◌, ◌<◌, length, get_or, refl, sym, ap, ◌∙◌, subst, arith}
 use Rattle.ss_part.proofs.Leasts.{ord_max_nat}
 use Rattle.ss_worker.specs.Place.{StandsAt}
 use Rattle.ss_worker.specs.Told.{IsLast}

@@ -1,4 +1,4 @@
-use Rattle.std.proofs.Common.{◌≡◌, ℕ, true, false, Bool, sym, ap, ◌∙◌, subst}
+use Rattle.std.proofs.Common.{subst}
 use Rattle.ss_run.specs.Run.{HasWindows}
 use Rattle.ss_worker.specs.Told.{IsLeft}
 use Rattle.ss_join.proofs.Mixed.{first_stands}

@@ -1,6 +1,5 @@
-use Rattle.std.proofs.Common.{◌≡◌, ◌<◌, ℕ, length, get_or, take, drop, List, [], ◌++◌, refl, sym, ap, ◌∙◌, subst, arith, append-nil, inl, inr, ◌⊎◌}
+use Rattle.std.proofs.Common.{◌≡◌, ◌<◌, ℕ, length, get_or, take, drop, List, ◌++◌, sym, ap, ◌∙◌, subst, arith, append-nil}
 use Rattle.std.proofs.lemmas.List.{take_all, drop_all}
-use Rattle.ss_worker.specs.Place.{Place}
 use Rattle.ss_join.specs.Between.{IsReady, HasRun, AllRun}
 use Rattle.ss_join.proofs.window.run_windows.Goals as goal
 
