@@ -1,1 +1,12 @@
 pub mod Network
+pub mod Turns
+pub mod Router
+pub mod Holding
+pub mod Fitting
+pub mod Fresh
+pub mod Balance
+pub mod Keeping
+pub mod Saved
+pub mod Acting
+pub mod Alike
+pub mod Kind

@@ -1,5 +1,5 @@
 -- The topologies as routes and peers, and the channels of their ports.
-use Rattle.std.specs.Prelude.{ℕ, ◌*◌, Bool, true, false, Option, Some, None}
+use Rattle.std.specs.Prelude.{ℕ, Bool, true, false, Option, Some, None}
 use Rattle.mr_flow.specs.declared.Peer.{Peer}
 use Rattle.mr_flow.specs.declared.Peer.TheVariants as peer
 use Rattle.mr_topo.specs.Routes.{Routes}

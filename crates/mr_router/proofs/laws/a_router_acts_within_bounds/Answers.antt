@@ -1,0 +1,5 @@
+use Rattle.mr_router.proofs.Acting.{router_acts}
+use Rattle.mr_router.proofs.laws.a_router_acts_within_bounds.Goals as goal
+
+pub returns : goal.returns
+returns c = router_acts

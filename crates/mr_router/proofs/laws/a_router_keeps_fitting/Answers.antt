@@ -1,0 +1,5 @@
+use Rattle.mr_router.proofs.Keeping.{router_keeps}
+use Rattle.mr_router.proofs.laws.a_router_keeps_fitting.Goals as goal
+
+pub returns : goal.returns
+returns c = router_keeps

@@ -1,0 +1,5 @@
+use Rattle.mr_router.proofs.Keeping.{router_is_ready}
+use Rattle.mr_router.proofs.laws.a_router_that_fits_is_ready.Goals as goal
+
+pub returns : goal.returns
+returns c = router_is_ready

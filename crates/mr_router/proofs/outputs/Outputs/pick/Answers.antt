@@ -1,0 +1,25 @@
+use Rattle.std.proofs.Common.{◌≡◌, length, ap, sym, subst, ◌∙◌, arith}
+use Rattle.mr_arb.specs.Arbitrating.{Arbiting, EachFits}
+use Rattle.mr_arb.proofs.Orders.{put_back}
+use Rattle.mr_router.proofs.Steps.{length-picks}
+use Rattle.mr_router.specs.declared.outputs.Choice.{Choice}
+use Rattle.mr_router.specs.Turns.{Chosen, turns_in, IsChoice}
+use Rattle.mr_router.proofs.outputs.Outputs.pick.Goals as goal
+
+pub unreachable-requires : goal.unreachable-requires
+unreachable-requires c =
+    let i = c.self.inside in
+    let fit = subst (λ (a : Chosen). EachFits a.slots a.turns) (sym c.self.view_is) c.requires.fit in
+    let read = subst (λ (o : Choice). EachFits i.slots (turns_in o)) c.in-Read.is fit in
+    let no = subst (λ (o : Choice). IsChoice i.slots o) c.in-Read.is c.self.invariant.0 in
+    absurd (no.1 read)
+
+pub invariant_of-self : goal.invariant_of-self
+invariant_of-self c =
+    let i = c.self.inside in
+    let held = subst (λ (o : Choice). IsChoice i.slots o) c.in-Ready.is c.self.invariant.0 in
+    let turns : length i.grants.items ≡ length c.in-Ready.arbiter.turns = c.self.invariant.1 ∙ ap (λ (o : Choice). length (turns_in o)) c.in-Ready.is in
+    let kept = c.pick.auto.grants ∙ ap length c.deref_mut.ensures.value in
+    let back = put_back c.pick.new.grants i.grants.items i.grants.len kept (omega arith) in
+    let after = ap (λ (a : Arbiting). length a.turns) c.pick.ensures.turns ∙ length-picks _ _ _ _ in
+    ((held.0, ap (λ (a : Arbiting). a.slots) c.pick.ensures.turns ∙ held.1), ap length back ∙ kept ∙ turns ∙ sym after)
