@@ -15,3 +15,4 @@ pub mod Merely
 pub mod Gives
 pub mod Tolds
 pub mod Begins
+pub mod Dividing

@@ -8,3 +8,4 @@ pub mod Place
 pub mod Told
 pub mod Sound
 pub mod Outgoing
+pub mod Divided
