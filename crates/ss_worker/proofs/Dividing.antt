@@ -1,7 +1,7 @@
 -- Elements that are put into the lists of their parts.
-use Rattle.std.proofs.Common.{◌≡◌, ℕ, zero, suc, ◌+◌, ◌<◌, ◌≤◌, List, [], ◌∷◌, ◌++◌, Bool, true, false, cond, eqb, Some, ◌⊎◌, refl, sym, ap, ◌∙◌, subst, arith, inl, inr, length, slice_index_or, map, add_assoc}
+use Rattle.std.proofs.Common.{◌≡◌, ℕ, zero, suc, ◌+◌, ◌≤◌, List, [], ◌∷◌, ◌++◌, Bool, true, false, cond, eqb, Some, ◌⊎◌, refl, sym, ap, ◌∙◌, subst, arith, inl, inr, length, slice_index_or, map}
 use Rattle.std.specs.Prelude.{slice_get, slice_index, slice_set, replicate}
-use Rattle.std.proofs.lemmas.Bool.{cases_Bool, cases_eq, eq-eqb, ne_eqb}
+use Rattle.std.proofs.lemmas.Bool.{cases_eq, eq-eqb, ne_eqb}
 use Rattle.std.proofs.lemmas.List.{get_or-set_same, get_or-set_other, length-set, append-nil}
 use Rattle.ss_worker.proofs.Batches.{map_set as set_map}
 use Rattle.ss_parts.specs.Parts.{components_of}
@@ -65,6 +65,14 @@ all_stand r ws n e a = record {
 pub length_back : {A : Type 0} (xs : List A) (x : A) → length (xs ++ x ∷ []) ≡ length xs + 1
 length_back [] x = refl
 length_back (y ∷ xs) x = let a = length_back xs x in omega (arith, a)
+
+nothing_there : (r : RunSpec) (q : ℕ) (pl : Place) → slice_get [] q ≡ Some pl → pl ≡ first r q
+nothing_there r zero pl h = absurd cc
+nothing_there r (suc q) pl h = absurd cc
+
+-- no worker yet
+pub first_none : (r : RunSpec) (ws : List Place) → ws ≡ [] → AreFirst r 0 ws
+first_none r ws e = subst (λ l. AreFirst r 0 l) (sym e) (record { count = refl; each = nothing_there r })
 
 -- one worker more
 get_back : {A : Type 0} (xs : List A) (x : A) (q : ℕ) (y : A) → slice_get (xs ++ x ∷ []) q ≡ Some y → (slice_get xs q ≡ Some y) ⊎ ((q ≡ length xs) × (x ≡ y))

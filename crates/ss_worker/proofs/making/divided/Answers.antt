@@ -1,4 +1,4 @@
-use Rattle.std.proofs.Common.{◌≡◌, map, ap, sym, subst, ◌∙◌, ◌+◌, arith, length, Option, Some, ◌++◌, ◌∷◌, []}
+use Rattle.std.proofs.Common.{map, ap, sym, ◌∙◌, ◌+◌}
 use Rattle.std.specs.Prelude.{slice_index}
 use Rattle.ss_worker.proofs.Dividing.{divided_more, length_back}
 use Rattle.ss_worker.proofs.making.divided.Goals as goal

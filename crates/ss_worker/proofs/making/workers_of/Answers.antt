@@ -1,20 +1,65 @@
-use Rattle.std.proofs.Common.{◌≡◌, ℕ, ◌+◌, ◌<◌, ◌≤◌, List, [], map, ap, sym, subst, ◌∙◌, arith, length, refl}
-use Rattle.std.specs.Prelude.{slice_index, slice_set}
+use Rattle.std.proofs.Common.{◌<◌, map, ap, sym, subst, ◌∙◌, arith, length, refl}
+use Rattle.std.specs.Prelude.{slice_index}
 use Rattle.std.specs.List.{filter}
 use Rattle.std.proofs.lemmas.List.{length-set}
 use Rattle.std.specs.Arc.{arc_value}
 use Rattle.ss_model.specs.Wiring.{Wiring}
 use Rattle.ss_theory.specs.Queue.{is_at}
+use Rattle.ss_model.specs.Order.{next_time}
+use Rattle.ss_parts.specs.Division.{all_idle}
 use Rattle.ss_parts.specs.Parts.{components_of}
 use Rattle.ss_run.specs.declared.RunSpec.{RunSpec}
 use Rattle.ss_run.specs.Run.{start_of, wires_of}
 use Rattle.ss_worker.specs.Place.{first}
 use Rattle.ss_worker.specs.Sorted.{goes_to}
-use Rattle.ss_worker.specs.Batched.{AreBatches}
 use Rattle.ss_worker.specs.Divided.{AreDivided}
 use Rattle.ss_worker.proofs.Batches.{map_at, map_length}
-use Rattle.ss_worker.proofs.Dividing.{first_more, all_stand, set_stays}
+use Rattle.ss_worker.proofs.Dividing.{first_none, first_more, all_stand, set_stays}
 use Rattle.ss_worker.proofs.making.workers_of.Goals as goal
+
+pub loop-part-init : goal.loop-part-init
+loop-part-init g c = record {
+  workers = first_none (arc_value c.args.run) c.new-workers.result.items c.new-workers.ensures.items;
+  bins_count = refl;
+  mail_count = refl;
+  bins = λ q le. refl;
+  mail = λ q le. refl;
+}
+
+pub index_mut-requires : goal.index_mut-requires
+index_mut-requires g c =
+    let i = c.loop-part.invariant in
+    let p = c.loop-part.part in
+    let d = subst (λ (x : RunSpec). AreDivided x.partition.list x.partition.parts c.args.model.elements.items (map (λ bin. bin.items) c.in_ok-bins.bins.items)) c.deref-4.ensures c.in_ok-bins.ensures in
+    let lt = subst (λ n. p < n) (c.parts-parts.ensures ∙ ap (λ (x : RunSpec). x.partition.parts) c.deref.ensures) c.loop-part-test.true in
+    let inside : p < length c.loop-part.bins.items = omega (arith, lt, i.bins_count, d.count, map_length (λ bin. bin.items) c.in_ok-bins.bins.items) in
+    omega (arith, inside, c.loop-part.bins.ok)
+
+pub index_mut-requires-in-loop-part : goal.index_mut-requires-in-loop-part
+index_mut-requires-in-loop-part g c =
+    let i = c.loop-part.invariant in
+    let p = c.loop-part.part in
+    let d = c.in_ok-mail.ensures in
+    let inside : p < length c.loop-part.mail.items = omega (arith, c.loop-part-test.true, i.mail_count, d.count, map_length (λ bin. bin.items) c.in_ok-mail.mail.items) in
+    omega (arith, inside, c.loop-part.mail.ok)
+
+pub new-requires-in-loop-part-3-clause-part : goal.new-requires-in-loop-part-3-clause-part
+new-requires-in-loop-part-3-clause-part g c =
+    let p = c.loop-part.part in
+    let lt = subst (λ n. p < n) (c.parts-parts.ensures ∙ ap (λ (x : RunSpec). x.partition.parts) c.deref.ensures) c.loop-part-test.true in
+    subst (λ (x : RunSpec). p < x.partition.parts) (sym c.in_ok-try_clone.ensures) lt
+
+pub new-requires-in-loop-part-3-clause-wires : goal.new-requires-in-loop-part-3-clause-wires
+new-requires-in-loop-part-3-clause-wires g c =
+    c.in_ok-try_clone-2.ensures ∙ c.in_ok-wires.ensures.ok ∙ c.requires.wires ∙ ap (λ (x : RunSpec). wires_of g.E.Simulated.meaning x) (sym c.in_ok-try_clone.ensures)
+
+pub new-requires-in-loop-part-3-clause-least : goal.new-requires-in-loop-part-3-clause-least
+new-requires-in-loop-part-3-clause-least g c =
+    c.first_time-least.ensures ∙ ap next_time (c.deref-2.ensures.value ∙ c.requires.events) ∙ ap (λ (x : RunSpec). next_time (start_of g.E.Simulated.meaning x).pending) (sym c.in_ok-try_clone.ensures)
+
+pub new-requires-in-loop-part-3-clause-done : goal.new-requires-in-loop-part-3-clause-done
+new-requires-in-loop-part-3-clause-done g c =
+    c.are_idle-done.ensures ∙ ap (all_idle g.E.Element.kind) (c.deref-3.ensures.value ∙ c.requires.elements) ∙ ap (λ (x : RunSpec). all_idle g.E.Element.kind (start_of g.E.Simulated.meaning x).components) (sym c.in_ok-try_clone.ensures)
 
 pub new-requires-in-loop-part-3-clause-elements : goal.new-requires-in-loop-part-3-clause-elements
 new-requires-in-loop-part-3-clause-elements g c =
