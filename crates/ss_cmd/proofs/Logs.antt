@@ -176,7 +176,17 @@ graph-is l = go (arguments_in l) ∙ ap graph_of (given-argument l)
     go (w ∷ ws) = refl
 
 plan-is : (c : Command) (l : Log) → plan_of_said c (split l) ≡ plan_of_values c (given l)
-plan-is command.Run l = rw (given-option l (codes "--stop-at") refl, given-option l (codes "--stats") refl, graph-is l) refl
+plan-is command.Run l =
+    rw (
+      given-option l (codes "--stop-at") refl,
+      given-option l (codes "--threads") refl,
+      given-option l (codes "--parts") refl,
+      given-option l (codes "--partitioner") refl,
+      given-option l (codes "--exchange") refl,
+      given-option l (codes "--stats") refl,
+      given-option l (codes "--sync-report") refl,
+      graph-is l,
+    ) refl
 plan-is command.Check l = rw (graph-is l) refl
 plan-is command.Partition l = rw (given-option l (codes "--parts") refl, given-option l (codes "--partitioner") refl, graph-is l) refl
 
@@ -210,7 +220,7 @@ planned c longs words (Err e) (inl h) = inl h
 planned c longs words (Err e) (inr h) = inr (ap (plan_of_words c) (said-log longs words free tt) ∙ no-plan c (log_from (names_of longs) free words) h)
 
 abbrev longs_of : Command → List Word
-longs_of command.Run = codes "stop-at" ∷ codes "stats" ∷ []
+longs_of command.Run = codes "stop-at" ∷ codes "threads" ∷ codes "parts" ∷ codes "partitioner" ∷ codes "exchange" ∷ codes "stats" ∷ codes "sync-report" ∷ []
 longs_of command.Check = []
 longs_of command.Partition = codes "parts" ∷ codes "partitioner" ∷ []
 

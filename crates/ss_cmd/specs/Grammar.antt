@@ -1,13 +1,15 @@
 -- The grammar of a call's words: a command, its options and its argument.
-use Rattle.std.specs.Prelude.{ℕ, ◌≤◌, ◌^◌, IfSome, ◌≡◌, ◌==◌, ◌&&◌, ◌⊎◌, List, [], ◌∷◌, length, if◌then◌else◌, Option, Some, None, Result, Ok, Err, unwrap_or, codes}
+use Rattle.std.specs.Prelude.{ℕ, ◌≤◌, ◌^◌, IfSome, ◌≡◌, ◌==◌, ◌&&◌, ◌⊎◌, List, [], ◌∷◌, length, if◌then◌else◌, Option, Some, None, Result, Ok, Err, unwrap_or, codes, Bool, false}
 use Rattle.std.specs.Str.{bytes_eq}
+use Rattle.ss_part.specs.declared.How.{How}
 use Rattle.ss_part.specs.declared.How.TheVariants as how
 use Rattle.ss_cmd.specs.Words.{Said, said_from, free, given, is_distinct}
-use Rattle.ss_cmd.specs.Values.{time, count, name, partitioner}
+use Rattle.ss_cmd.specs.Values.{time, count, name, partitioner, exchange}
 use Rattle.ss_cmd.specs.declared.Command.{Command}
 use Rattle.ss_cmd.specs.declared.Command.TheVariants as command
 use Rattle.ss_cmd.specs.declared.Plan.{Plan}
 use Rattle.ss_cmd.specs.declared.Plan.TheVariants as plan
+use Rattle.ss_cmd.specs.declared.Spread.{Spread}
 use Rattle.ss_cmd.specs.declared.Usage.{Usage}
 use Rattle.ss_cmd.specs.declared.Usage.TheVariants as usage
 
@@ -20,7 +22,7 @@ command_named s =
 
 -- the options of a command, in the order in which their values are judged
 abbrev pub options_of : Command → List (List ℕ)
-options_of command.Run = codes "--stop-at" ∷ codes "--stats" ∷ []
+options_of command.Run = codes "--stop-at" ∷ codes "--threads" ∷ codes "--parts" ∷ codes "--partitioner" ∷ codes "--exchange" ∷ codes "--stats" ∷ codes "--sync-report" ∷ []
 options_of command.Check = []
 options_of command.Partition = codes "--parts" ∷ codes "--partitioner" ∷ []
 
@@ -50,13 +52,27 @@ abbrev pub graph_in : List (List ℕ) → Result (List ℕ) Usage
 graph_in [] = Err usage.Words
 graph_in (g ∷ gs) = or_refused (codes "GRAPH") (name g)
 
+-- the spread of a run: one thread, the linear partitioner and no queues, where the options give nothing else
+abbrev pub spread : Option ℕ → Option ℕ → Option How → Option Bool → Spread
+spread threads parts how_given queue = record { threads = unwrap_or threads 1; parts = parts; how = unwrap_or how_given how.Linear; queue = unwrap_or queue false }
+
+abbrev pub spread_in : Said → Result Spread Usage
+spread_in said =
+    then_with (option_in count (codes "--threads") said) (λ threads.
+    then_with (option_in count (codes "--parts") said) (λ parts.
+    then_with (option_in partitioner (codes "--partitioner") said) (λ how_given.
+    then_with (option_in exchange (codes "--exchange") said) (λ queue.
+    Ok (spread threads parts how_given queue)))))
+
 -- the values of the options, in their order, and then the argument
 abbrev pub plan_of_said : Command → Said → Result Plan Usage
 plan_of_said command.Run said =
     then_with (option_in time (codes "--stop-at") said) (λ stop_at.
+    then_with (spread_in said) (λ spread.
     then_with (option_in name (codes "--stats") said) (λ stats.
+    then_with (option_in name (codes "--sync-report") said) (λ sync_report.
     then_with (graph_in said.arguments) (λ graph.
-    Ok (plan.Run graph (record { stop_at = stop_at; stats = stats })))))
+    Ok (plan.Run graph (record { stop_at = stop_at; spread = spread; stats = stats; sync_report = sync_report })))))))
 plan_of_said command.Check said = then_with (graph_in said.arguments) (λ graph. Ok (plan.Check graph))
 plan_of_said command.Partition said =
     then_with (option_in count (codes "--parts") said) (λ parts.

@@ -1,5 +1,5 @@
 -- What the texts of options and arguments stand for.
-use Rattle.std.specs.Prelude.{ℕ, ◌==◌, ◌&&◌, List, [], ◌∷◌, length, Bool, false, not, nat_le, nat_lt, if◌then◌else◌, Option, Some, None, Result, Ok, Err, codes}
+use Rattle.std.specs.Prelude.{ℕ, ◌==◌, ◌&&◌, List, [], ◌∷◌, length, Bool, true, false, not, nat_le, nat_lt, if◌then◌else◌, Option, Some, None, Result, Ok, Err, codes}
 use Rattle.std.specs.List.{list_all}
 use Rattle.std.specs.Str.{bytes_eq}
 use Rattle.ss_units.specs.Units.{ps, number, is_digit}
@@ -40,3 +40,10 @@ partitioner s =
     else (if bytes_eq s (codes "self") then Some how.SelfNamed
     else (if bytes_eq s (codes "single") then Some how.Single
     else None))))
+
+-- whether parts exchange events through queues
+abbrev pub exchange : List ℕ → Option Bool
+exchange s =
+    if bytes_eq s (codes "joined") then Some false
+    else (if bytes_eq s (codes "queue") then Some true
+    else None)

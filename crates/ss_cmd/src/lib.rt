@@ -3,7 +3,7 @@
 
 ghost use Rattle.std.specs.Prelude.{◌≡◌, IfOk};
 ghost use Rattle.ss_cmd.specs.Grammar.{Gives, IsEarly, plan_by, plan_of_words, command_named, options_of};
-ghost use Rattle.ss_cmd.specs.Reads.{plan_of_values, value_in};
+ghost use Rattle.ss_cmd.specs.Reads.{plan_of_values, spread_of, value_in};
 ghost use Rattle.ss_cmd.specs.Words.{said_from, free};
 
 #[cfg(test)]
@@ -15,7 +15,7 @@ use clap::ArgMatches;
 use ss_part::How;
 use ss_units::Text;
 use std::alloc::{AllocError, Global};
-use values::{count_given, graph_given, name_given, partitioner_given, time_given};
+use values::{count_given, exchange_given, graph_given, name_given, partitioner_given, time_given};
 use words::{matches_of, refusal, texts_of};
 
 /// A command.
@@ -26,13 +26,29 @@ pub enum Command {
     Partition,
 }
 
+/// How a run is spread over parts and threads, as read.
+#[derive(Clone, Copy, Debug, PartialEq, Eq)]
+pub struct Spread {
+    /// The number of threads.
+    pub threads: u32,
+    /// The number of parts. Where none is given it is the lesser of the threads and the components, and at least 1.
+    pub parts: Option<u32>,
+    /// How the components are divided into parts.
+    pub how: How,
+    /// Whether the parts exchange events through queues.
+    pub queue: bool,
+}
+
 /// The options of a run, as read.
 #[derive(Drop)]
 pub struct RunOptions {
     /// The time at which the run stops at the latest, in ps, in place of the graph's own. 0 stands for none.
     pub stop_at: Option<u64>,
+    pub spread: Spread,
     /// The name under which the statistics are put.
     pub stats: Option<Text>,
+    /// The name under which the report on windows is put.
+    pub sync_report: Option<Text>,
 }
 
 /// What the words of a call ask for.
@@ -90,16 +106,39 @@ fn command_of(word: &str) -> Option<Command>
     }
 }
 
+/// The spread that options give: one thread, the linear partitioner and no queues, where they give nothing else.
+fn spread_given(alloc: Global, matches: &ArgMatches) -> Result<Spread, Usage>
+    ensures { Gives (spread_of (value_in matches.now)) result }
+{
+    let threads = count_given(alloc, matches, "--threads")?;
+    let parts = count_given(alloc, matches, "--parts")?;
+    let how = partitioner_given(alloc, matches, "--partitioner")?;
+    let queue = exchange_given(alloc, matches, "--exchange")?;
+    Ok(Spread {
+        threads: threads.unwrap_or(1),
+        parts,
+        how: how.unwrap_or(How::Linear),
+        queue: queue.unwrap_or(false),
+    })
+}
+
 fn run_plan(alloc: Global, matches: &ArgMatches) -> Result<Plan, Usage>
     ensures given { Gives (plan_of_values Command.Run (value_in matches.now)) result }
     ensures early { IfOk result IsEarly }
 {
     let stop_at = time_given(alloc, matches, "--stop-at")?;
+    let spread = spread_given(alloc, matches)?;
     let stats = name_given(alloc, matches, "--stats")?;
+    let sync_report = name_given(alloc, matches, "--sync-report")?;
     let graph = graph_given(alloc, matches)?;
     Ok(Plan::Run {
         graph,
-        options: RunOptions { stop_at, stats },
+        options: RunOptions {
+            stop_at,
+            spread,
+            stats,
+            sync_report,
+        },
     })
 }
 
@@ -144,7 +183,8 @@ fn plan_of_command(alloc: Global, command: Command, words: &[Text]) -> Result<Pl
 
 /// What the words of a call, those behind the program's name, ask for.
 ///
-/// The first word is the command: `run GRAPH` with `--stop-at=TIME` and `--stats=NAME`, `check GRAPH`, or
+/// The first word is the command: `run GRAPH` with `--stop-at=TIME`, `--threads=N`, `--parts=N`,
+/// `--partitioner=KIND`, `--exchange=KIND`, `--stats=NAME` and `--sync-report=NAME`, `check GRAPH`, or
 /// `partition GRAPH` with `--parts=N` and `--partitioner=KIND`. An option is written `--name=value` or as two words,
 /// in any order and each at most once; `--` ends the options. Before it a word of two or more bytes that begins with
 /// `-` is one of the options, or the words are refused. Values are judged after the words, in the order above. The

@@ -39,6 +39,16 @@ fn refuses(rt: HostRuntime) -> Result<(), Fail> {
         ("check g --stats=s", "words"),
         ("run g --stats= --stop-at=1", "--stop-at"),
         ("run --stats= g", "--stats"),
+        ("run g --sync-report= --stats=", "--stats"),
+        (
+            "run g --exchange=pipe --threads=1 --partitioner=x",
+            "--partitioner",
+        ),
+        ("run g --stats= --exchange=joined,queue", "--exchange"),
+        ("run g --parts= --threads=-1", "--threads"),
+        ("run g --parts= --threads -1", "words"),
+        ("run g --threads=+1 --parts=0x", "--threads"),
+        ("partition g --threads=2", "words"),
         ("partition g --parts=01", "--parts"),
         ("partition g --parts 1000000000", "--parts"),
         ("partition g --partitioner=random", "--partitioner"),
@@ -65,11 +75,23 @@ fn plans(rt: HostRuntime) -> Result<(), Fail> {
             None,
             Some(999_999_999),
         ),
+        (
+            "run --parts 3 g --exchange=queue --threads=33 --sync-report=r",
+            "g",
+            None,
+            Some(3),
+        ),
     ] {
         let words = words_of(rt.alloc(), line)?;
         let plan = plan_of(rt.alloc(), &words).map_err(|_| "refused")?;
         let (graph, stop_at, count) = match plan {
-            Plan::Run { graph, options } => (graph, options.stop_at, None),
+            Plan::Run { graph, options } => {
+                assert_eq!(rt; options.spread.how, How::Linear);
+                assert_eq!(rt; options.spread.queue, options.sync_report.is_some());
+                let threads = if options.spread.queue { 33 } else { 1 };
+                assert_eq!(rt; options.spread.threads, threads);
+                (graph, options.stop_at, options.spread.parts)
+            }
             Plan::Check { graph } => (graph, None, None),
             Plan::Partition { graph, parts, how } => {
                 assert_eq!(rt; how, How::SelfNamed);

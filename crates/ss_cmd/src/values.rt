@@ -3,7 +3,7 @@
 ghost use Rattle.std.specs.Prelude.{◌≡◌, ◌⊎◌, ◌≤◌, ◌^◌, length, IfOk, IfSome, codes};
 ghost use Rattle.ss_cmd.specs.Grammar.{Gives, or_refused, read_given};
 ghost use Rattle.ss_cmd.specs.Reads.{graph_of, value_in};
-ghost use Rattle.ss_cmd.specs.Values.{count, time, name as name_value, partitioner, all_digits};
+ghost use Rattle.ss_cmd.specs.Values.{count, exchange, time, name as name_value, partitioner, all_digits};
 
 use crate::Usage;
 use clap::ArgMatches;
@@ -63,6 +63,17 @@ fn partitioner_of(text: &str) -> Option<How>
         "latency" => Some(How::Latency),
         "self" => Some(How::SelfNamed),
         "single" => Some(How::Single),
+        _ => None,
+    }
+}
+
+/// Whether a way of exchanging events is by queues.
+fn exchange_of(text: &str) -> Option<bool>
+    ensures { result ≡ exchange text.now }
+{
+    match text {
+        "joined" => Some(false),
+        "queue" => Some(true),
         _ => None,
     }
 }
@@ -131,6 +142,23 @@ pub fn partitioner_given(
         None => Ok(None),
         Some(text) => match partitioner_of(text) {
             Some(how) => Ok(Some(how)),
+            None => Err(refused(alloc, whose)),
+        },
+    }
+}
+
+/// Whether the way of exchanging events that an option is given is by queues.
+pub fn exchange_given(
+    alloc: Global,
+    matches: &ArgMatches,
+    whose: &str,
+) -> Result<Option<bool>, Usage>
+    ensures { Gives (read_given exchange whose.now (value_in matches.now whose.now)) result }
+{
+    match matches.get_str(whose) {
+        None => Ok(None),
+        Some(text) => match exchange_of(text) {
+            Some(queue) => Ok(Some(queue)),
             None => Err(refused(alloc, whose)),
         },
     }

@@ -5,7 +5,7 @@ ghost use Rattle.clap.specs.Words.{app_of, kind_of, with_rule};
 ghost use Rattle.clap.specs.declared.error.kind.ErrorKind.TheVariants as kind;
 ghost use Rattle.ss_cmd.specs.declared.Usage.TheVariants as usage;
 ghost use Rattle.ss_cmd.specs.Words.{texts};
-ghost use Rattle.ss_cmd.specs.Reads.{Reads, Texts, app_for, graph_app, option_rule};
+ghost use Rattle.ss_cmd.specs.Reads.{Reads, Texts, app_for, graph_app, option_rule, spread_app};
 
 use crate::Usage;
 use clap::error::ErrorKind;
@@ -50,6 +50,16 @@ fn with_option<'a>(
     command.arg(option)
 }
 
+/// The command with the options of a spread.
+fn with_spread<'a>(alloc: Global, command: Command<'a>) -> Result<Command<'a>, AllocError>
+    ensures { IfOk result (λ r. app_of r ≡ spread_app (app_of command.entry)) }
+{
+    let first = with_option(alloc, command, "--threads", "threads")?;
+    let second = with_option(alloc, first, "--parts", "parts")?;
+    let third = with_option(alloc, second, "--partitioner", "partitioner")?;
+    with_option(alloc, third, "--exchange", "exchange")
+}
+
 fn command_for<'a>(alloc: Global, command: crate::Command) -> Result<Command<'a>, AllocError>
     ensures { IfOk result (λ r. app_of r ≡ app_for command) }
 {
@@ -57,7 +67,9 @@ fn command_for<'a>(alloc: Global, command: crate::Command) -> Result<Command<'a>
     match command {
         crate::Command::Run => {
             let first = with_option(alloc, graph, "--stop-at", "stop-at")?;
-            with_option(alloc, first, "--stats", "stats")
+            let second = with_spread(alloc, first)?;
+            let third = with_option(alloc, second, "--stats", "stats")?;
+            with_option(alloc, third, "--sync-report", "sync-report")
         }
         crate::Command::Check => Ok(graph),
         crate::Command::Partition => {

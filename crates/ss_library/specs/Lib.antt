@@ -5,3 +5,5 @@ pub mod Stats
 pub mod Kept
 pub mod Make
 pub mod Laws
+pub mod Meaning
+pub mod Opens

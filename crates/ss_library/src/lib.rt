@@ -7,6 +7,7 @@ mod kinds;
 mod making;
 mod param;
 mod place;
+mod simulated;
 mod stats;
 mod table;
 #[cfg(test)]

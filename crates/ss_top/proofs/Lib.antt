@@ -1,7 +1,15 @@
 pub mod Taking
 pub mod Pieces
 pub mod Texts
+pub mod Shelving
 pub mod Endings
 pub mod Judging
+pub mod Reporting
+pub mod Lengths
+pub mod Running
+pub mod Gathering
+pub mod Joining
+pub mod Dealing
+pub mod Divided
 pub mod Simulating
 pub mod Complete

@@ -1,5 +1,6 @@
 -- From a run of the plain engine to what is printed.
-use Rattle.std.proofs.Common.{◌≡◌, ℕ, List, [], ◌∷◌, ◌++◌, map, Bool, true, false, cond, Option, Some, None, refl, ap, sym, ◌∙◌, subst, ◌⊎◌, inl, inr, true≢false}
+use Rattle.std.proofs.Common.{◌≡◌, ℕ, ◌≤◌, List, [], ◌∷◌, ◌++◌, map, Bool, true, false, cond, Option, Some, None, refl, ap, sym, ◌∙◌, subst, ◌⊎◌, inl, inr, true≢false, option_map, arith}
+use Rattle.std.proofs.lemmas.Bool.Decides.{nat_tests}
 use Rattle.ss_model.specs.declared.Line.{Line}
 use Rattle.ss_model.specs.Wiring.{Wiring}
 use Rattle.ss_model.specs.Step.{opening}
@@ -16,7 +17,7 @@ use Rattle.ss_library.specs.Make.{Made, make_checks, model_of}
 use Rattle.ss_library.specs.Make as making
 use Rattle.ss_serial.specs.Serial.{Standing, standing, Ran}
 use Rattle.ss_top.specs.Judge.{Judged, not_text, at_fault, past_limit, accepted, judge, judged_made, refused_by, unmade_by, elements, Prints}
-use Rattle.ss_top.specs.Simulate.{judged_by, IsSaid, IsRefusal, IsVerdict, HasRun, IsDivided, IsUndivided, UndividedBy, is_part_memory, RefusedBy, UnmadeBy}
+use Rattle.ss_top.specs.Simulate.{judged_by, IsSaid, IsRefusal, IsVerdict, HasRun, texts_by, puts_by, IsDivided, IsUndivided, UndividedBy, is_part_memory, RefusedBy, UnmadeBy}
 use Rattle.std.specs.Prelude.{unwrap_or}
 use Rattle.ss_top.specs.declared.refusal.Refusal.{Refusal}
 use Rattle.ss_top.specs.declared.simulate.Verdict.{Verdict}
@@ -26,11 +27,15 @@ use Rattle.ss_library.specs.declared.fault.MakeFault.TheVariants as making_fault
 use Rattle.ss_cmd.specs.declared.Plan.{Plan}
 use Rattle.ss_cmd.specs.declared.Plan.TheVariants as plan
 use Rattle.ss_cmd.specs.declared.RunOptions.{RunOptions}
-use Rattle.ss_top.specs.Answer.{Answer, graph_name, whole, refused_as, AnswersAccepted, AnswersJudged, division, divided_as, division_texts, undivided_by}
+use Rattle.ss_top.specs.Answer.{Answer, graph_name, whole, refused_as, AnswersAccepted, AnswersJudged, AnswersRun, AnswersDivided, division, divided_as, division_texts, undivided_by}
 use Rattle.ss_part.specs.declared.How.{How}
 use Rattle.ss_part.specs.declared.PartFault.{PartFault}
 use Rattle.ss_part.specs.declared.PartFault.TheVariants as part_fault
-use Rattle.ss_part.specs.Assigned.{assigned, refusal}
+use Rattle.ss_part.specs.Assigned.{assigned, refusal, can_have, misplaced}
+use Rattle.ss_top.specs.declared.sheets.Printed.{Printed}
+use Rattle.ss_top.specs.Left.{Working, AreWorkers}
+use Rattle.ss_top.specs.Report.{run_of}
+use Rattle.ss_top.specs.Spreading.{parts_of}
 use Rattle.ss_top.proofs.Judging.{judge_refused, judge_made}
 
 module _ (w : Wiring) (xs : List Any) (l : Limits) (t : ℕ) (ls : List Line) (left : List Any) where
@@ -106,37 +111,72 @@ graph_unmade p g f r h k = unsaid p g f (judged_by r) h k
 
 -- ---- verdicts
 
-pub text_made : (p : Plan) (bytes : List ℕ) (g : Graph) (v : Verdict) → first_fault (text_checks bytes) ≡ None → g ≡ graph_of bytes → IsVerdict p g (judged_made (first_fault (make_checks g))) v → IsVerdict p (graph_of bytes) (judge bytes) v
-text_made p bytes g v h e m = subst (λ (x : Graph). IsVerdict p x (judge bytes) v) e (subst (λ (j : Judged). IsVerdict p g j v) (sym (judge_made bytes g h e)) m)
+pub text_made : (p : Plan) (bytes : List ℕ) (g : Graph) (workers : List Working) (v : Verdict) → first_fault (text_checks bytes) ≡ None → g ≡ graph_of bytes → IsVerdict p g (judged_made (first_fault (make_checks g))) workers v → IsVerdict p (graph_of bytes) (judge bytes) workers v
+text_made p bytes g workers v h e m = subst (λ (x : Graph). IsVerdict p x (judge bytes) workers v) e (subst (λ (j : Judged). IsVerdict p g j workers v) (sym (judge_made bytes g h e)) m)
 
 -- what is made is accepted
 as_made : (g : Graph) → first_fault (make_checks g) ≡ None → accepted ≡ judged_made (first_fault (make_checks g))
 as_made g h = sym (ap judged_made h)
 
-module _ (g : Graph) (graph : List ℕ) where
-  ran_accepted : (options : RunOptions) (v : Verdict) → HasRun g options v → IsVerdict (plan.Run graph options) g accepted v
-  ran_accepted options (verdict.Ran lines time sheet) h = (map text_of lines.items ++ final_line time ∷ [], h.0, h.1, ap (whole (map text_of lines.items ++ final_line time ∷ [])) h.2)
-  ran_accepted options (verdict.Listed texts) h = absurd h
-  ran_accepted options (verdict.Refused r) h = starved (judged_by r) h
-    where
-      starved : (o : Option Judged) → o ≡ None → IsRefusal (plan.Run graph options) g accepted o
-      starved None e = tt
-      starved (Some j) e = absurd cc
+starved : (p : Plan) (g : Graph) (j : Judged) (o : Option Judged) → o ≡ None → IsRefusal p g j o
+starved p g j None e = tt
+starved p g j (Some i) e = absurd cc
 
-  pub graph_ran : (options : RunOptions) (v : Verdict) → first_fault (make_checks g) ≡ None → HasRun g options v → IsVerdict (plan.Run graph options) g (judged_made (first_fault (make_checks g))) v
-  graph_ran options v h r = subst (λ (j : Judged). IsVerdict (plan.Run graph options) g j v) (as_made g h) (ran_accepted options v r)
+-- a division has from 1 to 32 parts
+has_parts : (t : Bool) (o : Option PartFault) (f : PartFault) → cond t o (Some f) ≡ None → t ≡ true
+has_parts true o f e = refl
+has_parts false o f e = absurd cc
 
-  divided_accepted : (parts : Option ℕ) (how : How) (v : Verdict) → IsDivided graph g (unwrap_or parts 1) how v → IsVerdict (plan.Partition graph parts how) g accepted v
-  divided_accepted parts how (verdict.Ran lines time sheet) h = absurd h
-  divided_accepted parts how (verdict.Listed texts) h = h
+pub divided_some : (g : Graph) (parts : ℕ) (how : How) → refusal g parts how ≡ None → 1 ≤ parts
+unfolding refusal can_have
+divided_some g parts how e = let h = has_parts (can_have g parts) (option_map part_fault.BadThread (misplaced g parts how)) (part_fault.Parts parts) e in grind (arith, nat_tests)
+
+pub divided_few : (g : Graph) (parts : ℕ) (how : How) → refusal g parts how ≡ None → parts ≤ 32
+unfolding refusal can_have
+divided_few g parts how e = let h = has_parts (can_have g parts) (option_map part_fault.BadThread (misplaced g parts how)) (part_fault.Parts parts) e in grind (arith, nat_tests)
+
+module _ (g : Graph) (graph : List ℕ) (workers : List Working) where
+  abbrev parts_for : RunOptions → ℕ
+  parts_for o = parts_of o.spread g
+
+  abbrev undivided_for : RunOptions → Option PartFault
+  undivided_for o = refusal g (parts_for o) o.spread.how
+
+  -- a graph that was divided and run
+  pub run_accepted : (o : RunOptions) (parts : ℕ) (r : Printed) → parts ≡ parts_for o → refusal g parts o.spread.how ≡ None → HasRun g o parts workers r → IsVerdict (plan.Run graph o) g accepted workers (verdict.Ran r)
+  run_accepted o parts r is none h =
+      let a : AnswersRun o g parts (whole (texts_by r) (puts_by r.sheets.items)) = (texts_by r, h.left, h.reports, h.prints, h.reported, ap (whole (texts_by r)) h.puts) in
+      let d : AnswersDivided graph o g parts (refusal g parts o.spread.how) (whole (texts_by r) (puts_by r.sheets.items)) = subst (λ (f : Option PartFault). AnswersDivided graph o g parts f (whole (texts_by r) (puts_by r.sheets.items))) (sym none) a in (
+        subst (λ n. AnswersDivided graph o g n (refusal g n o.spread.how) (whole (texts_by r) (puts_by r.sheets.items))) is d,
+        subst (λ n. 2 ≤ n → AreWorkers (run_of g o.stop_at n (assigned g n o.spread.how)) workers) is h.leaves,
+      )
+
+  not_divided : (o : RunOptions) (parts : ℕ) (f : PartFault) (j : Option Judged) → parts ≡ parts_for o → (f ≡ part_fault.NoMemory) ⊎ (refusal g parts o.spread.how ≡ Some f) → IsSaid (is_part_memory f) j (undivided_by f) → IsRefusal (plan.Run graph o) g accepted j
+  not_divided o parts f None is h s = tt
+  not_divided o parts f (Some j) is (inl m) s = absurd (let e : is_part_memory f ≡ true = ap is_part_memory m in true≢false (sym e ∙ s.0))
+  not_divided o parts f (Some j) is (inr e) s =
+      let a : refused_as graph j ≡ refused_as graph (undivided_by f) = ap (refused_as graph) (sym s.1) in
+      subst (λ n. AnswersDivided graph o g n (refusal g n o.spread.how) (refused_as graph j)) is
+      (subst (λ (x : Option PartFault). AnswersDivided graph o g parts x (refused_as graph j)) (sym e) a)
+
+  -- one that couldn't be divided
+  pub run_undivided : (o : RunOptions) (parts : ℕ) (f : PartFault) (r : Refusal) → parts ≡ parts_for o → (f ≡ part_fault.NoMemory) ⊎ (refusal g parts o.spread.how ≡ Some f) → UndividedBy f r → IsVerdict (plan.Run graph o) g accepted workers (verdict.Refused r)
+  run_undivided o parts f r is h k = not_divided o parts f (judged_by r) is h k
+
+  pub graph_ran : (options : RunOptions) (v : Verdict) → first_fault (make_checks g) ≡ None → IsVerdict (plan.Run graph options) g accepted workers v → IsVerdict (plan.Run graph options) g (judged_made (first_fault (make_checks g))) workers v
+  graph_ran options v h r = subst (λ (j : Judged). IsVerdict (plan.Run graph options) g j workers v) (as_made g h) r
+
+  divided_accepted : (parts : Option ℕ) (how : How) (v : Verdict) → IsDivided graph g (unwrap_or parts 1) how v → IsVerdict (plan.Partition graph parts how) g accepted workers v
+  divided_accepted parts how (verdict.Ran r) h = absurd h
+  divided_accepted parts how (verdict.Listed texts) h = (h, tt)
   divided_accepted parts how (verdict.Refused r) h = undivided (judged_by r) h
     where
       undivided : (o : Option Judged) → IsUndivided graph g (unwrap_or parts 1) how o → IsRefusal (plan.Partition graph parts how) g accepted o
       undivided None e = tt
       undivided (Some j) e = e
 
-  pub graph_divided : (parts : Option ℕ) (how : How) (v : Verdict) → first_fault (make_checks g) ≡ None → IsDivided graph g (unwrap_or parts 1) how v → IsVerdict (plan.Partition graph parts how) g (judged_made (first_fault (make_checks g))) v
-  graph_divided parts how v h d = subst (λ (j : Judged). IsVerdict (plan.Partition graph parts how) g j v) (as_made g h) (divided_accepted parts how v d)
+  pub graph_divided : (parts : Option ℕ) (how : How) (v : Verdict) → first_fault (make_checks g) ≡ None → IsDivided graph g (unwrap_or parts 1) how v → IsVerdict (plan.Partition graph parts how) g (judged_made (first_fault (make_checks g))) workers v
+  graph_divided parts how v h d = subst (λ (j : Judged). IsVerdict (plan.Partition graph parts how) g j workers v) (as_made g h) (divided_accepted parts how v d)
 
 -- ---- divisions
 

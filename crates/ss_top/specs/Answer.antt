@@ -6,6 +6,7 @@ use Rattle.ss_top.specs.declared.print.Message.TheVariants as message
 use Rattle.ss_edge.specs.Edge.{Contents}
 use Rattle.ss_cmd.specs.declared.Plan.{Plan}
 use Rattle.ss_cmd.specs.declared.Plan.TheVariants as plan
+use Rattle.ss_cmd.specs.declared.RunOptions.{RunOptions}
 use Rattle.ss_cmd.specs.declared.Usage.{Usage}
 use Rattle.ss_cmd.specs.declared.Usage.TheVariants as usage
 use Rattle.ss_cmd.specs.Grammar.{plan_by}
@@ -23,6 +24,8 @@ use Rattle.ss_library.specs.Kinds.{any_stats}
 use Rattle.ss_top.specs.declared.refusal.Fault.TheVariants as fault
 use Rattle.ss_graph.specs.Judge.{graph_of}
 use Rattle.ss_graph.specs.declared.fault.LimitKind.TheVariants as limit
+use Rattle.ss_top.specs.Report.{Reports, run_of}
+use Rattle.ss_top.specs.Spreading.{parts_of, too_many_threads}
 use Rattle.ss_top.specs.Judge.{Judged, not_text, at_fault, past_limit, accepted, judge, RunsTo}
 use Rattle.ss_top.specs.declared.Status.{Status}
 use Rattle.ss_top.specs.declared.Status.TheVariants as status
@@ -115,9 +118,21 @@ abbrev pub sheets : Option (List ℕ) → List ℕ → List (List ℕ × List �
 sheets None text = []
 sheets (Some name) text = (name, text) ∷ []
 
--- what an accepted graph answers to what is asked of it
+-- the run of an accepted graph in so many parts: its texts, then the statistics, then the report
+abbrev pub AnswersRun : RunOptions → Graph → ℕ → Answer → Type 0
+AnswersRun o g parts a =
+    (texts : List (List ℕ)) × (left : List Any) × (reports : List (List ℕ × List ℕ))
+    × RunsTo g o.stop_at texts left
+    × Reports (run_of g o.stop_at parts (assigned g parts o.spread.how)) o.sync_report reports
+    × (a ≡ whole texts (sheets o.stats (stats_text g left) ++ reports))
+
+-- the same where the graph can be divided into so many parts, and else the refusal
+abbrev pub AnswersDivided : List ℕ → RunOptions → Graph → ℕ → Option PartFault → Answer → Type 0
+AnswersDivided name o g parts None a = AnswersRun o g parts a
+AnswersDivided name o g parts (Some f) a = a ≡ refused_as name (undivided_by f)
+
 abbrev pub AnswersAccepted : Plan → Graph → Answer → Type 0
-AnswersAccepted (plan.Run graph options) g a = (texts : List (List ℕ)) × (left : List Any) × RunsTo g options.stop_at texts left × (a ≡ whole texts (sheets options.stats (stats_text g left)))
+AnswersAccepted (plan.Run graph options) g a = AnswersDivided graph options g (parts_of options.spread g) (undivided g (parts_of options.spread g) options.spread.how) a
 AnswersAccepted (plan.Check graph) g a = a ≡ whole (accepted_text g ∷ []) []
 AnswersAccepted (plan.Partition graph parts how) g a = a ≡ division graph g (unwrap_or parts 1) how
 
@@ -165,17 +180,26 @@ abbrev pub usage_status : Usage → Status
 usage_status usage.NoMemory = status.NoMemory
 usage_status u = status.Usage
 
+-- too many threads are refused before anything is read
+abbrev pub AnswersPlanned : Plan → Contents → Option ℕ → Answer → Type 0
+AnswersPlanned p held None a = AnswersEntry p (get held (graph_name p)) a
+AnswersPlanned p held (Some threads) a = a ≡ refusal status.Limit (limit_line limit.Threads threads)
+
 abbrev pub AnswersPlan : Result Plan Usage → Contents → Answer → Type 0
 AnswersPlan (Err u) held a = a ≡ refusal status.Usage (message_text message.Usage ++ usage_text u)
-AnswersPlan (Ok p) held a = AnswersEntry p (get held (graph_name p)) a
+AnswersPlan (Ok p) held a = AnswersPlanned p held (too_many_threads p) a
 
 -- these words answer this, where the shelf holds these entries
 unfoldable pub Answers : List (List ℕ) → Contents → Answer → Type 0
 Answers words held a = AnswersPlan (plan_by words) held a
 
+abbrev pub AsksPlanned : Plan → Option ℕ → List ℕ → Type 0
+AsksPlanned p None name = name ≡ graph_name p
+AsksPlanned p (Some threads) name = ⊥
+
 abbrev pub AsksOf : Result Plan Usage → List ℕ → Type 0
 AsksOf (Err u) name = ⊥
-AsksOf (Ok p) name = name ≡ graph_name p
+AsksOf (Ok p) name = AsksPlanned p (too_many_threads p) name
 
 -- these words ask for the entry of this name
 abbrev pub Asks : List (List ℕ) → List ℕ → Type 0

@@ -4,6 +4,7 @@ use Rattle.ss_top.specs.Message.{message_text}
 use Rattle.ss_top.specs.declared.print.Message.TheVariants as message
 use Rattle.ss_edge.specs.Edge.{Contents, Rose, Kept, PartlyPut, with_entry, more, TookSome}
 use Rattle.ss_top.specs.Answer.{Step, write, put, Answer, Answers, Asks, line}
+use Rattle.ss_top.specs.Left.{Working, Leaves}
 use Rattle.ss_top.specs.declared.Status.{Status}
 use Rattle.ss_top.specs.declared.Status.TheVariants as status
 
@@ -69,6 +70,11 @@ pub record Given (answers : Contents → Answer → Type 0) (old new : Seen) (s 
   pub done : new.outside ≡ after_steps answer.steps old.outside
   pub err : ErrTook answer.err old new
 
+-- and what else the call left is what it has to leave over the same entries
+pub record GivenLeaving (answers : Contents → Answer → Type 0) (leaves : Contents → Type 0) (old new : Seen) (s : Status) : Type 0 where
+  pub given : Given answers old new s
+  pub left : leaves given.held
+
 -- the entry that is asked for could not be read, and nothing was written
 pub record Unread (asks : List ℕ → Type 0) (old new : Seen) : Type 0 where
   pub name : List ℕ
@@ -107,20 +113,20 @@ pub record Starved (answers : Contents → Answer → Type 0) (old new : Seen) :
   pub so_far : (new.outside ≡ old.outside) ⊎ Reached answers old new
   pub err : ErrTook (line (message_text message.NoMemory)) old new
 
--- how a call may end, of which answers and asks tell the meaning
-abbrev pub EndsBy : (Contents → Answer → Type 0) → (List ℕ → Type 0) → Seen → Seen → Status → Type 0
-EndsBy answers asks old new status.Whole = Given answers old new status.Whole
-EndsBy answers asks old new status.Usage = Given answers old new status.Usage
-EndsBy answers asks old new status.Text = Given answers old new status.Text
-EndsBy answers asks old new status.Graph = Given answers old new status.Graph
-EndsBy answers asks old new status.Limit = Given answers old new status.Limit
-EndsBy answers asks old new status.ReadFault = Unread asks old new
-EndsBy answers asks old new status.WriteFault = Unwritten answers old new
-EndsBy answers asks old new status.NoMemory = Starved answers old new
+-- how a call may end, of which answers, asks and leaves tell the meaning
+abbrev pub EndsBy : (Contents → Answer → Type 0) → (List ℕ → Type 0) → (Contents → Type 0) → Seen → Seen → Status → Type 0
+EndsBy answers asks leaves old new status.Whole = GivenLeaving answers leaves old new status.Whole
+EndsBy answers asks leaves old new status.Usage = Given answers old new status.Usage
+EndsBy answers asks leaves old new status.Text = Given answers old new status.Text
+EndsBy answers asks leaves old new status.Graph = Given answers old new status.Graph
+EndsBy answers asks leaves old new status.Limit = Given answers old new status.Limit
+EndsBy answers asks leaves old new status.ReadFault = Unread asks old new
+EndsBy answers asks leaves old new status.WriteFault = Unwritten answers old new
+EndsBy answers asks leaves old new status.NoMemory = Starved answers old new
 
--- how a call with these words may end
-abbrev pub Ends : List (List ℕ) → Seen → Seen → Status → Type 0
-Ends words old new s = EndsBy (Answers words) (Asks words) old new s
+-- how a call with these words may end that leaves these workers
+abbrev pub Ends : List (List ℕ) → List Working → Seen → Seen → Status → Type 0
+Ends words workers old new s = EndsBy (Answers words) (Asks words) (λ held. Leaves words held workers) old new s
 
 -- the statuses that need something beside the words and the entries: a fault, or want of memory
 abbrev pub Failing : Status → Type 0
@@ -149,4 +155,4 @@ OneAnswer = (words : List (List ℕ)) (held : Contents) (a b : Answer) → Answe
 
 -- a call that ends as it may is complete
 abbrev pub AllComplete : Type 0
-AllComplete = (words : List (List ℕ)) (old new : Seen) (s : Status) → Ends words old new s → IsComplete words old new s
+AllComplete = (words : List (List ℕ)) (workers : List Working) (old new : Seen) (s : Status) → Ends words workers old new s → IsComplete words old new s

@@ -6,3 +6,7 @@ pub mod Reading
 pub mod Printing
 pub mod Simulate
 pub mod Writing
+pub mod Spreading
+pub mod Report
+pub mod Left
+pub mod Dividing

@@ -1,5 +1,5 @@
 -- What the run of a graph text leaves.
-use Rattle.std.specs.Prelude.{ℕ, ◌≡◌, Bool, true, false, List, [], ◌∷◌, ◌++◌, map, Option, Some, None, codes}
+use Rattle.std.specs.Prelude.{ℕ, ◌≡◌, ◌≤◌, Bool, true, false, List, [], ◌∷◌, ◌++◌, map, Option, Some, None, codes}
 use Rattle.ss_model.specs.End.{text_of, final_line}
 use Rattle.ss_graph.specs.declared.graph.Graph.{Graph}
 use Rattle.ss_graph.specs.declared.fault.GraphFault.{GraphFault}
@@ -8,14 +8,18 @@ use Rattle.ss_library.specs.declared.fault.MakeFault.{MakeFault}
 use Rattle.ss_library.specs.Make.{make_checks, model_of}
 use Rattle.ss_library.specs.Make as making
 use Rattle.ss_top.specs.Message.{message_text, fault_line, limit_line}
-use Rattle.ss_top.specs.Answer.{line, whole, graph_name, refused_as, AnswersJudged, sheets, undivided_by, division, stats_text}
+use Rattle.ss_top.specs.Answer.{line, whole, graph_name, refused_as, AnswersJudged, sheets as sheets_of, undivided_by, division, stats_text}
 use Rattle.ss_library.specs.declared.kinds.Any.{Any}
 use Rattle.ss_cmd.specs.declared.RunOptions.{RunOptions}
 use Rattle.ss_part.specs.declared.How.{How}
 use Rattle.ss_part.specs.declared.PartFault.{PartFault}
 use Rattle.ss_part.specs.declared.PartFault.TheVariants as part_fault
-use Rattle.ss_top.specs.declared.simulate.Sheet.{Sheet}
+use Rattle.ss_top.specs.declared.sheets.Printed.{Printed}
+use Rattle.ss_top.specs.declared.sheets.Sheet.{Sheet}
 use Rattle.ss_cmd.specs.declared.Plan.{Plan}
+use Rattle.ss_part.specs.Assigned.{assigned}
+use Rattle.ss_top.specs.Report.{Reports, run_of}
+use Rattle.ss_top.specs.Left.{Working, AreWorkers, LeavesAccepted}
 use Rattle.ss_top.specs.Printing.{Told}
 use Rattle.ss_top.specs.Judge.{Judged, not_text, at_fault, past_limit, accepted, refused_by, unmade_by, RunsTo}
 use Rattle.ss_top.specs.declared.print.Message.TheVariants as message
@@ -46,10 +50,16 @@ RefusedBy f r = IsSaid (is_memory f) (judged_by r) (refused_by f)
 abbrev pub UnmadeBy : MakeFault → Refusal → Type 0
 UnmadeBy f r = IsSaid (making.is_memory f) (judged_by r) (unmade_by f)
 
--- the bytes that are put, and their name
-abbrev pub puts_by : Option Sheet → List (List ℕ × List ℕ)
-puts_by None = []
-puts_by (Some s) = (s.name, s.text.items) ∷ []
+-- the bytes that are put, each with its name
+abbrev pub put_by : Sheet → List ℕ × List ℕ
+put_by s = (s.name, s.text.items)
+
+abbrev pub puts_by : List Sheet → List (List ℕ × List ℕ)
+puts_by sheets = map put_by sheets
+
+abbrev pub sheet_puts : Option Sheet → List (List ℕ × List ℕ)
+sheet_puts None = []
+sheet_puts (Some s) = put_by s ∷ []
 
 abbrev pub is_part_memory : PartFault → Bool
 is_part_memory (part_fault.Parts n) = false
@@ -61,11 +71,18 @@ abbrev pub IsRefusal : Plan → Graph → Judged → Option Judged → Type 0
 IsRefusal p g j None = Unit {0}
 IsRefusal p g j (Some i) = AnswersJudged p g j (refused_as (graph_name p) i)
 
--- a run of an accepted graph, with the stop time that is asked for, or want of memory
-abbrev pub HasRun : Graph → RunOptions → Verdict → Type 0
-HasRun g o (verdict.Ran lines time sheet) = (left : List Any) × RunsTo g o.stop_at (map text_of lines.items ++ final_line time ∷ []) left × (puts_by sheet ≡ sheets o.stats (stats_text g left))
-HasRun g o (verdict.Listed texts) = ⊥
-HasRun g o (verdict.Refused r) = judged_by r ≡ None
+-- the texts of a run: its lines, and the final line
+abbrev pub texts_by : Printed → List (List ℕ)
+texts_by r = map text_of r.lines.items ++ final_line r.time ∷ []
+
+-- what a run of an accepted graph in so many parts prints and puts, as it is asked for, and which workers it leaves
+pub record HasRun (g : Graph) (o : RunOptions) (parts : ℕ) (workers : List Working) (r : Printed) : Type 0 where
+  pub left : List Any
+  pub reports : List (List ℕ × List ℕ)
+  pub prints : RunsTo g o.stop_at (texts_by r) left
+  pub reported : Reports (run_of g o.stop_at parts (assigned g parts o.spread.how)) o.sync_report reports
+  pub puts : puts_by r.sheets.items ≡ sheets_of o.stats (stats_text g left) ++ reports
+  pub leaves : 2 ≤ parts → AreWorkers (run_of g o.stop_at parts (assigned g parts o.spread.how)) workers
 
 -- of a division
 abbrev pub UndividedBy : PartFault → Refusal → Type 0
@@ -77,15 +94,15 @@ IsUndivided name g parts how None = Unit {0}
 IsUndivided name g parts how (Some j) = refused_as name j ≡ division name g parts how
 
 abbrev pub IsDivided : List ℕ → Graph → ℕ → How → Verdict → Type 0
-IsDivided name g parts how (verdict.Ran lines time sheet) = ⊥
+IsDivided name g parts how (verdict.Ran printed) = ⊥
 IsDivided name g parts how (verdict.Listed texts) = whole (map (λ t. t.items) texts.items) [] ≡ division name g parts how
 IsDivided name g parts how (verdict.Refused r) = IsUndivided name g parts how (judged_by r)
 
--- a verdict is what a judged graph answers
-abbrev pub IsVerdict : Plan → Graph → Judged → Verdict → Type 0
-IsVerdict p g j (verdict.Ran lines time sheet) = AnswersJudged p g j (whole (map text_of lines.items ++ final_line time ∷ []) (puts_by sheet))
-IsVerdict p g j (verdict.Listed texts) = AnswersJudged p g j (whole (map (λ t. t.items) texts.items) [])
-IsVerdict p g j (verdict.Refused r) = IsRefusal p g j (judged_by r)
+-- a verdict is what a judged graph answers, and these workers are what it has to leave
+abbrev pub IsVerdict : Plan → Graph → Judged → List Working → Verdict → Type 0
+IsVerdict p g j workers (verdict.Ran r) = AnswersJudged p g j (whole (texts_by r) (puts_by r.sheets.items)) × LeavesAccepted p g workers
+IsVerdict p g j workers (verdict.Listed texts) = AnswersJudged p g j (whole (map (λ t. t.items) texts.items) []) × LeavesAccepted p g workers
+IsVerdict p g j workers (verdict.Refused r) = IsRefusal p g j (judged_by r)
 
 -- the status of a refusal, and its line
 abbrev pub status_of : Option Judged → Status

@@ -1,22 +1,23 @@
 //! Running a graph text and writing what its run prints.
 
-ghost use Rattle.std.specs.Prelude.{◌≡◌, ◌≤◌, ◌++◌, ◌∷◌, [], map, IfOk};
+ghost use Rattle.std.specs.Prelude.{◌≡◌, ◌≤◌, ◌++◌, ◌∷◌, [], map, IfOk, None};
 ghost use Rattle.ss_cmd.specs.Grammar.{IsEarly};
 ghost use Rattle.ss_model.specs.End.{text_of, final_line};
 ghost use Rattle.ss_top.specs.Headline.{Counted, seen};
-ghost use Rattle.ss_edge.specs.Edge.{Kept};
-ghost use Rattle.ss_top.specs.Simulate.{puts_by};
-ghost use Rattle.ss_top.specs.Writing.{Writes, Puts, EndsText};
+ghost use Rattle.ss_top.specs.Spreading.{too_many_threads};
+ghost use Rattle.ss_top.specs.Writing.{Writes, EndsText};
 
-use crate::print::{Message, tell, tell_plain, write_lines, write_texts};
+use crate::print::{Message, tell_plain, write_lines, write_texts};
+use crate::putting::put_sheets;
 use crate::refusal::tell_refusal;
-use crate::simulate::{Sheet, Verdict, answer_text};
-use crate::{Status, name_of};
+use crate::simulate::{Verdict, answer_text};
+use crate::{Ran, Status, name_of};
 use ss_cmd::Plan;
 use ss_edge::{Shelf, Sink, write_all};
 use ss_element::Line;
 use ss_units::push_decimal;
 use std::alloc::{AllocError, Global};
+use std::thread::Threads;
 
 #[tactic(auto, unfolding(ss_model::specs::End::final_line))]
 fn final_text(alloc: Global, time: u64) -> Result<Vec<u8>, AllocError>
@@ -75,36 +76,20 @@ fn write_list<K: Sink, R: Sink>(texts: &[Vec<u8>], out: &mut K, err: &mut R) -> 
     }
 }
 
-/// Puts the text of statistics, where there is one.
-fn put_sheet<V: Shelf, R: Sink>(sheet: &Option<Sheet>, shelf: &mut V, err: &mut R) -> Status
-    ensures ends { Puts (puts_by sheet.now) (V.held shelf.old) (V.held shelf.new) (V.put_faults shelf.old) (V.put_faults shelf.new) (R.taken err.old) (R.taken err.new) (R.faults err.old) (R.faults err.new) result }
-    ensures reads { Kept (V.read_faults shelf.old) (V.read_faults shelf.new) }
-    ensures puts { Kept (V.put_faults shelf.old) (V.put_faults shelf.new) }
-    ensures err_faults { R.faults err.old ≤ R.faults err.new }
-{
-    match sheet {
-        None => Status::Whole,
-        Some(sheet) => match shelf.put(sheet.name.as_str(), sheet.text.as_slice()) {
-            Ok(()) => Status::Whole,
-            Err(_) => {
-                tell(err, Message::WriteFault, sheet.name.as_str().as_bytes());
-                Status::WriteFault
-            }
-        },
-    }
-}
-
 /// Does with the graph of the bytes that were read what a plan asks.
-pub fn finish<V: Shelf, K: Sink, R: Sink>(
+pub fn finish<T: Threads + Sync, V: Shelf, K: Sink, R: Sink>(
+    rt: &T,
     alloc: Global,
     plan: &Plan,
     text: &[u8],
     shelf: &mut V,
     out: &mut K,
     err: &mut R,
+    ran: &mut Ran,
 ) -> Status
-    requires { IsEarly plan.now }
-    ensures ends { EndsText plan.now text.now
+    requires early { IsEarly plan.now }
+    requires threads { too_many_threads plan.now ≡ None }
+    ensures ends { EndsText plan.now text.now ran.new.workers.items
         (seen (V.held shelf.old) (V.read_faults shelf.old) (V.put_faults shelf.old) (K.taken out.old) (K.faults out.old) (R.taken err.old) (R.faults err.old))
         (seen (V.held shelf.new) (V.read_faults shelf.new) (V.put_faults shelf.new) (K.taken out.new) (K.faults out.new) (R.taken err.new) (R.faults err.new))
         result }
@@ -112,11 +97,11 @@ pub fn finish<V: Shelf, K: Sink, R: Sink>(
         (seen (V.held shelf.old) (V.read_faults shelf.old) (V.put_faults shelf.old) (K.taken out.old) (K.faults out.old) (R.taken err.old) (R.faults err.old))
         (seen (V.held shelf.new) (V.read_faults shelf.new) (V.put_faults shelf.new) (K.taken out.new) (K.faults out.new) (R.taken err.new) (R.faults err.new)) }
 {
-    match answer_text(alloc, plan, text) {
+    match answer_text(rt, alloc, plan, text, ran) {
         Verdict::Refused(refusal) => tell_refusal(err, name_of(plan), &refusal),
-        Verdict::Ran { lines, time, sheet } => {
-            match write_run(alloc, lines.as_slice(), time, out, err) {
-                Status::Whole => put_sheet(&sheet, shelf, err),
+        Verdict::Ran(printed) => {
+            match write_run(alloc, printed.lines.as_slice(), printed.time, out, err) {
+                Status::Whole => put_sheets(printed.sheets.as_slice(), shelf, err),
                 status => status,
             }
         }

@@ -1,6 +1,6 @@
 //! The run of a graph text.
 
-ghost use Rattle.std.specs.Prelude.{◌≡◌, ◌<◌, ◌≤◌, ◌^◌, ◌++◌, ◌∷◌, [], map, length, IfOk, IfSome};
+ghost use Rattle.std.specs.Prelude.{◌≡◌, ◌<◌, ◌≤◌, ◌^◌, ◌++◌, ◌∷◌, [], map, length, IfOk, IfSome, None, List, ℕ};
 ghost use Rattle.ss_model.specs.Step.{opening};
 ghost use Rattle.ss_model.specs.End.{text_of, final_line};
 ghost use Rattle.ss_graph.specs.Fit.{IsFit};
@@ -9,40 +9,35 @@ ghost use Rattle.ss_library.specs.Kinds.{any_safe};
 ghost use Rattle.ss_cmd.specs.Grammar.{IsEarly};
 ghost use Rattle.ss_graph.specs.Checks.{first_fault};
 ghost use Rattle.ss_library.specs.Make.{make_checks, model_of};
-ghost use Rattle.ss_top.specs.Answer.{accepted_text, part_line, part_lines, cut_line, division_texts, sheets, stats_rows, stats_text};
-ghost use Rattle.ss_stats.specs.Text.{head};
-ghost use Rattle.ss_top.specs.Judge.{Prints, judge, judged_made, stop_by};
-ghost use Rattle.ss_top.specs.Simulate.{IsVerdict, HasRun, IsDivided, puts_by};
+ghost use Rattle.ss_cmd.specs.declared.Plan.TheVariants as plan;
+ghost use Rattle.ss_part.specs.Assigned.{assigned};
+ghost use Rattle.ss_part.specs.Division.{AreBelow};
+ghost use Rattle.ss_top.specs.Answer.{accepted_text, part_line, part_lines, cut_line, division_texts};
+ghost use Rattle.ss_top.specs.Judge.{Prints, judge, judged_made, accepted, stop_by};
+ghost use Rattle.ss_top.specs.Left.{Working};
+ghost use Rattle.ss_top.specs.Simulate.{IsVerdict, HasRun, IsDivided};
+ghost use Rattle.ss_top.specs.Spreading.{parts_of, too_many_threads};
 
+use crate::Ran;
+use crate::parts::run_divided;
 use crate::refusal::{Refusal, refused, undivided, unmade};
-use ss_cmd::{Plan, RunOptions};
-use ss_element::{Element, Line, Model};
+use crate::sheets::{Printed, stats_sheet};
+use ss_cmd::{Plan, RunOptions, Spread};
+use ss_element::{Line, Model};
 use ss_graph::{Graph, Part, read};
 use ss_library::{Any, make};
 use ss_part::{How, Partition, assign, lookahead};
 use ss_serial::Serial;
-use ss_stats::{csv_head, csv_rows};
-use ss_units::{Text, push_decimal};
+use ss_units::push_decimal;
 use std::alloc::{AllocError, Global};
+use std::thread::Threads;
 
-/// What a graph text answers: what its run prints, as lines and the time that the final line tells; texts that are
-/// listed; or a refusal.
+/// What a graph text answers: what its run prints and puts; texts that are listed; or a refusal.
 #[derive(Drop)]
 pub enum Verdict {
-    Ran {
-        lines: Vec<Line>,
-        time: u64,
-        sheet: Option<Sheet>,
-    },
+    Ran(Printed),
     Listed(Vec<Vec<u8>>),
     Refused(Refusal),
-}
-
-/// The text of a run's statistics, and the name under which it is put.
-#[derive(Drop)]
-pub struct Sheet {
-    pub name: Text,
-    pub text: Vec<u8>,
 }
 
 /// The lines of a run, the time that its final line tells, and the simulation as the run left it.
@@ -77,7 +72,7 @@ fn run_model(
 }
 
 /// When a run stops at the latest, by what is asked and by its graph.
-fn stop_time(asked: Option<u64>, stop: u64) -> u64
+pub fn stop_time(asked: Option<u64>, stop: u64) -> u64
     requires asked { IfSome asked (λ t. t ≤ 2 ^ 62) }
     requires stop { stop ≤ 2 ^ 62 }
     ensures is { result ≡ stop_by asked stop }
@@ -192,73 +187,125 @@ fn divide(alloc: Global, name: &str, graph: &Graph, parts: u32, how: How) -> Ver
     }
 }
 
-/// The text of the statistics of components.
-fn stats_of(alloc: Global, parts: &[Part], elements: &[Any]) -> Result<Vec<u8>, AllocError>
-    ensures { IfOk result (λ v. v.items ≡ head ++ stats_rows parts.now elements.now) }
-{
-    let mut text = Vec::new(alloc);
-    csv_head(&mut text)?;
-    for (part, element) in parts.iter().zip(elements) {
-        csv_rows(part.name.as_str().as_bytes(), element.stats(), &mut text)?;
-    }
-    Ok(text)
-}
-
-/// The text of the statistics that a run left, where a name for it is given.
-fn sheet_of(
+/// Runs an accepted graph's model as one part, as a plan's options ask.
+fn run_whole(
     alloc: Global,
-    name: &Option<Text>,
     graph: &Graph,
-    elements: &[Any],
-) -> Result<Option<Sheet>, AllocError>
-    ensures { IfOk result (λ s. puts_by s ≡ sheets name.now (stats_text graph.now elements.now)) }
-{
-    match name {
-        None => Ok(None),
-        Some(name) => {
-            let text = stats_of(alloc, graph.components.as_slice(), elements)?;
-            let name = name.copy(alloc)?;
-            Ok(Some(Sheet { name, text }))
-        }
-    }
-}
-
-/// Runs an accepted graph's model as a plan's options ask.
-fn run_graph(alloc: Global, graph: &Graph, options: &RunOptions, model: Model<Any>) -> Verdict
+    options: &RunOptions,
+    model: Model<Any>,
+) -> Result<Printed, AllocError>
     requires fit { IsFit graph.now }
     requires early { IfSome options.now.stop_at (λ t. t ≤ 2 ^ 62) }
     requires made { record { elements = model.elements.items; wires = model.wires } ≡ model_of graph.now }
     requires few { length model.elements.items < 2 ^ 32 }
     requires safe { any_safe model.wires 0 (opening model.elements.items) }
-    ensures { HasRun graph.now options.now result }
+    requires unreported { options.now.sync_report ≡ None }
+    ensures { (workers : List Working) → IfOk result (HasRun graph.now options.now 1 workers) }
 {
     let stop = stop_time(options.stop_at, graph.options.stop_at);
-    let Ok(simulated) = run_model(alloc, model, stop, graph.options.exit_period) else {
-        return Verdict::Refused(Refusal::NoMemory);
+    let simulated = run_model(alloc, model, stop, graph.options.exit_period)?;
+    let sheets = stats_sheet(alloc, &options.stats, graph, simulated.serial.elements())?;
+    Ok(Printed {
+        lines: simulated.lines,
+        time: simulated.time,
+        sheets,
+    })
+}
+
+/// In how many parts a graph is run.
+fn part_count(spread: &Spread, graph: &Graph) -> u32
+    requires { IsFit graph.now }
+    ensures { result ≡ parts_of spread.now graph.now }
+{
+    match spread.parts {
+        Some(parts) => parts,
+        None => {
+            let components = graph.components.as_slice().len() as u32;
+            spread.threads.min(components.max(1))
+        }
+    }
+}
+
+/// Runs an accepted graph's model in the parts of a division, as a plan's options ask.
+fn run_parts<T: Threads + Sync>(
+    rt: &T,
+    alloc: Global,
+    graph: Graph,
+    options: &RunOptions,
+    model: Model<Any>,
+    partition: Partition,
+    ran: &mut Ran,
+) -> Result<Printed, AllocError>
+    requires fit { IsFit graph }
+    requires early { IfSome options.now.stop_at (λ t. t ≤ 2 ^ 62) }
+    requires threads { 1 ≤ options.now.spread.threads }
+    requires made { record { elements = model.elements.items; wires = model.wires } ≡ model_of graph }
+    requires few { length model.elements.items < 2 ^ 32 }
+    requires safe { any_safe model.wires 0 (opening model.elements.items) }
+    requires some { 1 ≤ partition.parts }
+    requires divided { partition.list ≡ assigned graph partition.parts options.now.spread.how }
+    requires whole { length partition.list ≡ length graph.components }
+    requires below { AreBelow partition.list partition.parts }
+    requires few_parts { partition.parts ≤ 32 }
+    ensures { IfOk result (HasRun graph options.now partition.parts ran.new.workers.items) }
+{
+    if partition.parts() > 1 {
+        return run_divided(rt, alloc, graph, options, model, partition, ran);
+    }
+    match &options.sync_report {
+        None => run_whole(alloc, &graph, options, model),
+        Some(_) => run_divided(rt, alloc, graph, options, model, partition, ran),
+    }
+}
+
+/// Divides an accepted graph and runs its model as a plan's options ask.
+fn run_graph<T: Threads + Sync>(
+    rt: &T,
+    alloc: Global,
+    graph: Graph,
+    options: &RunOptions,
+    model: Model<Any>,
+    ran: &mut Ran,
+) -> Verdict
+    requires fit { IsFit graph }
+    requires early { IfSome options.now.stop_at (λ t. t ≤ 2 ^ 62) }
+    requires threads { 1 ≤ options.now.spread.threads }
+    requires made { record { elements = model.elements.items; wires = model.wires } ≡ model_of graph }
+    requires few { length model.elements.items < 2 ^ 32 }
+    requires safe { any_safe model.wires 0 (opening model.elements.items) }
+    ensures { (name : List ℕ) → IsVerdict (plan.Run name options.now) graph accepted ran.new.workers.items result }
+{
+    let parts = part_count(&options.spread, &graph);
+    let partition = match assign(alloc, &graph, parts, options.spread.how) {
+        Ok(partition) => partition,
+        Err(fault) => return Verdict::Refused(undivided(alloc, fault)),
     };
-    match sheet_of(alloc, &options.stats, graph, simulated.serial.elements()) {
-        Ok(sheet) => Verdict::Ran {
-            lines: simulated.lines,
-            time: simulated.time,
-            sheet,
-        },
+    match run_parts(rt, alloc, graph, options, model, partition, ran) {
+        Ok(printed) => Verdict::Ran(printed),
         Err(_) => Verdict::Refused(Refusal::NoMemory),
     }
 }
 
 /// Makes a graph, and does with it what a plan asks.
-fn answer_graph(alloc: Global, plan: &Plan, graph: &Graph) -> Verdict
-    requires fit { IsFit graph.now }
+fn answer_graph<T: Threads + Sync>(
+    rt: &T,
+    alloc: Global,
+    plan: &Plan,
+    graph: Graph,
+    ran: &mut Ran,
+) -> Verdict
+    requires fit { IsFit graph }
     requires early { IsEarly plan.now }
-    ensures { IsVerdict plan.now graph.now (judged_made (first_fault (make_checks graph.now))) result }
+    requires threads { too_many_threads plan.now ≡ None }
+    ensures { IsVerdict plan.now graph (judged_made (first_fault (make_checks graph))) ran.new.workers.items result }
 {
-    let model = match make(alloc, graph) {
+    let model = match make(alloc, &graph) {
         Ok(model) => model,
         Err(fault) => return Verdict::Refused(unmade(fault)),
     };
     match plan {
-        Plan::Run { options, .. } => run_graph(alloc, graph, options, model),
-        Plan::Check { .. } => match checked(alloc, graph) {
+        Plan::Run { options, .. } => run_graph(rt, alloc, graph, options, model, ran),
+        Plan::Check { .. } => match checked(alloc, &graph) {
             Ok(texts) => Verdict::Listed(texts),
             Err(_) => Verdict::Refused(Refusal::NoMemory),
         },
@@ -266,17 +313,24 @@ fn answer_graph(alloc: Global, plan: &Plan, graph: &Graph) -> Verdict
             graph: name,
             parts,
             how,
-        } => divide(alloc, name.as_str(), graph, parts.unwrap_or(1), *how),
+        } => divide(alloc, name.as_str(), &graph, parts.unwrap_or(1), *how),
     }
 }
 
 /// Judges a graph text, and does with its graph what a plan asks.
-pub fn answer_text(alloc: Global, plan: &Plan, text: &[u8]) -> Verdict
-    requires { IsEarly plan.now }
-    ensures { IsVerdict plan.now (graph_of text.now) (judge text.now) result }
+pub fn answer_text<T: Threads + Sync>(
+    rt: &T,
+    alloc: Global,
+    plan: &Plan,
+    text: &[u8],
+    ran: &mut Ran,
+) -> Verdict
+    requires early { IsEarly plan.now }
+    requires threads { too_many_threads plan.now ≡ None }
+    ensures { IsVerdict plan.now (graph_of text.now) (judge text.now) ran.new.workers.items result }
 {
     match read(alloc, text) {
-        Ok(graph) => answer_graph(alloc, plan, &graph),
+        Ok(graph) => answer_graph(rt, alloc, plan, graph, ran),
         Err(fault) => Verdict::Refused(refused(fault)),
     }
 }

@@ -1,11 +1,14 @@
 //! Whole calls over a shelf and sinks in memory.
 
-use crate::{Status, sst_here};
+use crate::{Ran, Status, sst_here};
 use ss_edge::{MemShelf, MemSink};
+use ss_library::Any;
 use ss_units::Text;
+use ss_worker::Worker;
 use std::alloc::{AllocError, Global};
 use std::process::Abort;
 use std::test::Fail;
+use std::thread::Threads;
 
 /// A pinger of three rounds and an echo, joined by a link of 1 ns each way.
 const PING_PONG: &str =
@@ -45,28 +48,35 @@ struct Case<'a> {
     err: &'a str,
 }
 
-/// Runs a case over a shelf, with a sink that fails at the listed calls.
-fn check_over(
-    rt: &impl Abort,
+/// Runs a case over a shelf, with a sink that fails at the listed calls, and gives what it leaves.
+fn check_over<R: Abort + Threads + Sync>(
+    rt: &R,
     alloc: Global,
     case: &Case,
     shelf: &mut MemShelf,
     fails: Vec<u64>,
-) -> Result<(), AllocError> {
+) -> Result<Ran, AllocError> {
     let words = words_of(alloc, case.line)?;
     let mut out = MemSink::new(alloc, case.most, fails);
     let mut err = MemSink::new(alloc, 0, Vec::new(alloc));
-    let status = sst_here(alloc, &words, shelf, &mut out, &mut err);
+    let mut ran = Ran::new(alloc);
+    let status = sst_here(rt, alloc, &words, shelf, &mut out, &mut err, &mut ran);
     assert_eq!(rt; status, case.status);
     assert_eq!(rt; out.bytes(), case.out.as_bytes());
     assert_eq!(rt; err.bytes(), case.err.as_bytes());
-    Ok(())
+    Ok(ran)
 }
 
 /// Runs a case with a sink that fails at the listed calls.
-fn check(rt: &impl Abort, alloc: Global, case: &Case, fails: Vec<u64>) -> Result<(), AllocError> {
+fn check<R: Abort + Threads + Sync>(
+    rt: &R,
+    alloc: Global,
+    case: &Case,
+    fails: Vec<u64>,
+) -> Result<(), AllocError> {
     let mut shelf = shelf_with(alloc, case.graph, Vec::new(alloc))?;
-    check_over(rt, alloc, case, &mut shelf, fails)
+    let _ran = check_over(rt, alloc, case, &mut shelf, fails)?;
+    Ok(())
 }
 
 fn case_of<'a>(
@@ -91,6 +101,28 @@ fn does_what_lines_ask(rt: HostRuntime) -> Result<(), Fail> {
     let alloc = rt.alloc();
     for (line, graph, out) in [
         ("run g1.json", PING_PONG, PONGS),
+        ("run g1.json --threads=2", PING_PONG, PONGS),
+        ("run g1.json --threads=4 --exchange=queue", PING_PONG, PONGS),
+        (
+            "run g1.json --parts=2 --partitioner=roundrobin",
+            PING_PONG,
+            PONGS,
+        ),
+        (
+            "run g1.json --threads=4",
+            "{\"components\":[]}",
+            "Simulation is complete, simulated time: 0 ps\n",
+        ),
+        (
+            "run g1.json --threads=2 --stop-at=3ns",
+            PING_PONG,
+            "ping: pong 1 at 2000 ps\nSimulation is complete, simulated time: 3000 ps\n",
+        ),
+        (
+            "run --stop-at 2ns g1.json --parts=2",
+            PING_PONG,
+            "Simulation is complete, simulated time: 2000 ps\n",
+        ),
         (
             "run g1.json",
             "{\"components\":[]}",
@@ -146,6 +178,36 @@ fn refuses_lines(rt: HostRuntime) -> Result<(), Fail> {
             "sst: usage: words\n",
         ),
         (
+            "run g1.json --parts=3",
+            PING_PONG,
+            Status::Limit,
+            "sst: limit: parts 3\n",
+        ),
+        (
+            "run g1.json --parts=0",
+            PING_PONG,
+            Status::Limit,
+            "sst: limit: parts 0\n",
+        ),
+        (
+            "run g2.json --threads=33",
+            PING_PONG,
+            Status::Limit,
+            "sst: limit: threads 33\n",
+        ),
+        (
+            "run g2.json --threads=0",
+            PING_PONG,
+            Status::Limit,
+            "sst: limit: threads 0\n",
+        ),
+        (
+            "run g1.json --parts=4 --partitioner=self",
+            RING,
+            Status::Graph,
+            "sst: graph: BadThread components[0].partition.thread\n",
+        ),
+        (
             "run g1.json --stop-at=5000000s",
             PING_PONG,
             Status::Usage,
@@ -189,27 +251,27 @@ const ASKING: &str =
 #[test]
 fn puts_statistics(rt: HostRuntime) -> Result<(), Fail> {
     let alloc = rt.alloc();
-    let mut shelf = shelf_with(alloc, ASKING, Vec::new(alloc))?;
-    let mut case = case_of(
+    let mut case = case_of("", ASKING, Status::Whole, PONGS, "");
+    for line in [
+        "run g1.json --threads=2 --stats=s.csv",
         "run g1.json --stats=s.csv",
-        ASKING,
-        Status::Whole,
-        PONGS,
-        "",
-    );
-    check_over(&rt, alloc, &case, &mut shelf, Vec::new(alloc))?;
-    let text = shelf.entry("s.csv").ok_or("no entry")?;
-    assert_eq!(rt;
-        text,
-        b"component,statistic,field,value\nping,roundtrip,count,3\nping,roundtrip,sum,6000\nping,roundtrip,sumsq,12000000\nping,roundtrip,min,2000\nping,roundtrip,max,2000\n".as_slice()
-    );
+    ] {
+        case.line = line;
+        let mut shelf = shelf_with(alloc, ASKING, Vec::new(alloc))?;
+        let _ran = check_over(&rt, alloc, &case, &mut shelf, Vec::new(alloc))?;
+        let text = shelf.entry("s.csv").ok_or("no entry")?;
+        assert_eq!(rt;
+            text,
+            b"component,statistic,field,value\nping,roundtrip,count,3\nping,roundtrip,sum,6000\nping,roundtrip,sumsq,12000000\nping,roundtrip,min,2000\nping,roundtrip,max,2000\n".as_slice()
+        );
+    }
     // Two reads come before the put, which keeps nine bytes.
     let mut fails = Vec::new(alloc);
     fails.push((2, 9))?;
     let mut full = shelf_with(alloc, ASKING, fails)?;
     case.status = Status::WriteFault;
     case.err = "sst: write fault: s.csv\n";
-    check_over(&rt, alloc, &case, &mut full, Vec::new(alloc))?;
+    let _full = check_over(&rt, alloc, &case, &mut full, Vec::new(alloc))?;
     let part = full.entry("s.csv").ok_or("no entry")?;
     assert_eq!(rt; part, b"component".as_slice());
     Ok(())
@@ -240,8 +302,53 @@ fn runs_clocks(rt: HostRuntime) -> Result<(), Fail> {
             "ping: pong 1 at 2000 ps\nSimulation is complete, simulated time: 3000 ps\n",
         ),
     ] {
-        let case = case_of("run g1.json", graph, Status::Whole, out, "");
-        check(&rt, alloc, &case, Vec::new(alloc))?;
+        for line in [
+            "run g1.json",
+            "run g1.json --threads=2",
+            "run g1.json --threads=4",
+        ] {
+            let case = case_of(line, graph, Status::Whole, out, "");
+            check(&rt, alloc, &case, Vec::new(alloc))?;
+        }
+    }
+    Ok(())
+}
+
+/// How many events a worker handed out to another part, where it can be asked.
+fn sent_to(worker: &Worker<Any>, taker: u32) -> Option<u128> {
+    if worker.failed() || taker >= worker.run().partition.parts() || taker == worker.part() {
+        return None;
+    }
+    Some(worker.sent(taker))
+}
+
+#[test]
+fn reports_windows(rt: HostRuntime) -> Result<(), Fail> {
+    let alloc = rt.alloc();
+    for (line, workers, report) in [
+        (
+            "run g1.json --threads=2 --sync-report=r",
+            2,
+            "windows 7\n0 1 batches 7 events 3\n1 0 batches 7 events 3\n",
+        ),
+        (
+            "run g1.json --threads=2 --exchange=queue --sync-report=r",
+            2,
+            "windows 7\n0 1 batches 7 events 3\n1 0 batches 7 events 3\n",
+        ),
+        ("run g1.json --threads=1 --sync-report=r", 1, "windows 1\n"),
+    ] {
+        let mut shelf = shelf_with(alloc, PING_PONG, Vec::new(alloc))?;
+        let case = case_of(line, PING_PONG, Status::Whole, PONGS, "");
+        let ran = check_over(&rt, alloc, &case, &mut shelf, Vec::new(alloc))?;
+        let text = shelf.entry("r").ok_or("no report")?;
+        assert_eq!(rt; text, report.as_bytes());
+        assert_eq!(rt; ran.workers.len(), workers);
+        if workers == 2 {
+            assert_eq!(rt; sent_to(&ran.workers[0], 1), Some(3));
+            assert_eq!(rt; sent_to(&ran.workers[1], 0), Some(3));
+            assert_eq!(rt; ran.workers[1].windows(), 7);
+        }
     }
     Ok(())
 }

@@ -5,7 +5,7 @@ mod edge;
 
 use edge::{FileShelf, WriterSink};
 use ss_edge::Sink;
-use ss_top::{Message, Status, sst_here, tell, tell_plain};
+use ss_top::{Message, Ran, Status, sst_here, tell, tell_plain};
 use ss_units::Text;
 use std::io::ErrorKind;
 use std::process::ExitCode;
@@ -59,7 +59,16 @@ fn main(rt: HostRuntime) -> ExitCode {
         Ok(words) => {
             let mut shelf = FileShelf::new(&rt);
             let mut out = WriterSink::new(io::writer(&rt));
-            sst_here(rt.alloc(), words.as_slice(), &mut shelf, &mut out, &mut err)
+            let mut ran = Ran::new(rt.alloc());
+            sst_here(
+                &rt,
+                rt.alloc(),
+                words.as_slice(),
+                &mut shelf,
+                &mut out,
+                &mut err,
+                &mut ran,
+            )
         }
     };
     ExitCode::from(code(status))

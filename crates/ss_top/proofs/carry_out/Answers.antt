@@ -1,17 +1,15 @@
-use Rattle.std.proofs.Common.{refl, ap, Err, subst, List, ℕ}
-use Rattle.ss_top.specs.Reading.{Holds}
-use Rattle.ss_top.proofs.Endings.{read_answered, read_large}
+use Rattle.std.proofs.Common.{refl, sym}
+use Rattle.ss_top.specs.Headline.{seen}
+use Rattle.ss_top.specs.Spreading.{too_many_threads}
+use Rattle.ss_top.proofs.Endings.{threads_answered, threads_refused}
 use Rattle.ss_top.proofs.carry_out.Goals as goal
 
-pub returns-in-Ok-clause-ends : goal.returns-in-Ok-clause-ends
-returns-in-Ok-clause-ends g c =
-    read_answered c.args.plan.now (g.V.Shelf.held c.args.shelf.now) (g.V.Shelf.held c.read_entry.new.shelf) (g.V.Shelf.held c.finish.new.shelf) (g.V.Shelf.read_faults c.args.shelf.now) (g.V.Shelf.read_faults c.read_entry.new.shelf) (g.V.Shelf.read_faults c.finish.new.shelf) (g.V.Shelf.put_faults c.args.shelf.now) (g.V.Shelf.put_faults c.read_entry.new.shelf) (g.V.Shelf.put_faults c.finish.new.shelf) (g.K.Sink.taken c.args.out.now) (g.K.Sink.taken c.finish.new.out) (g.K.Sink.faults c.args.out.now) (g.K.Sink.faults c.finish.new.out) (g.R.Sink.taken c.args.err.now) (g.R.Sink.taken c.finish.new.err) (g.R.Sink.faults c.args.err.now) (g.R.Sink.faults c.finish.new.err) c.in-Ok.text.items c.as_slice.result.now c.finish.result c.as_slice.ensures.value
-    (subst (λ (n : List ℕ). Holds (g.V.Shelf.held c.args.shelf.now) n c.in-Ok.text.items) c.name_of-name.ensures c.in-Ok.ensures.whole)
-    c.in-Ok.ensures.within c.in-Ok.ensures.same c.in-Ok.ensures.puts c.finish.ensures.counted.puts c.finish.ensures.ends
+pub returns-in-Some-clause-ends : goal.returns-in-Some-clause-ends
+returns-in-Some-clause-ends g c =
+    threads_refused c.args.plan.now c.args.ran.now.workers.items (seen (g.V.Shelf.held c.args.shelf.now) (g.V.Shelf.read_faults c.args.shelf.now) (g.V.Shelf.put_faults c.args.shelf.now) (g.K.Sink.taken c.args.out.now) (g.K.Sink.faults c.args.out.now) (g.R.Sink.taken c.args.err.now) (g.R.Sink.faults c.args.err.now)) (seen (g.V.Shelf.held c.args.shelf.now) (g.V.Shelf.read_faults c.args.shelf.now) (g.V.Shelf.put_faults c.args.shelf.now) (g.K.Sink.taken c.args.out.now) (g.K.Sink.faults c.args.out.now) (g.R.Sink.taken c.tell_limit.new.err) (g.R.Sink.faults c.tell_limit.new.err))
+    (too_many_threads c.args.plan.now) c.in-Some.threads (sym c.in-Some.ensures) refl c.tell_limit.ensures.told
 
-pub returns-in-Err-TooLarge-clause-ends : goal.returns-in-Err-TooLarge-clause-ends
-returns-in-Err-TooLarge-clause-ends g c =
-    let big = c.in-Err-TooLarge.ensures.large (ap Err c.in-Err-TooLarge.field-0-is) in
-    read_large c.args.plan.now (g.V.Shelf.held c.args.shelf.now) (g.V.Shelf.held c.read_entry.new.shelf) (g.V.Shelf.read_faults c.args.shelf.now) (g.V.Shelf.read_faults c.read_entry.new.shelf) (g.V.Shelf.put_faults c.args.shelf.now) (g.V.Shelf.put_faults c.read_entry.new.shelf) (g.K.Sink.taken c.args.out.now) (g.K.Sink.taken c.args.out.now) (g.K.Sink.faults c.args.out.now) (g.K.Sink.faults c.args.out.now) (g.R.Sink.taken c.args.err.now) (g.R.Sink.taken c.tell_limit.new.err) (g.R.Sink.faults c.args.err.now) (g.R.Sink.faults c.tell_limit.new.err) big.0 big.1
-    (subst (λ (n : List ℕ). Holds (g.V.Shelf.held c.args.shelf.now) n big.0) c.name_of-name.ensures big.2)
-    c.in-Err-TooLarge.ensures.same refl c.tell_limit.ensures.told
+pub returns-in-None-clause-ends : goal.returns-in-None-clause-ends
+returns-in-None-clause-ends g c =
+    threads_answered c.args.plan.now c.read_and_run.new.ran.workers.items (seen (g.V.Shelf.held c.args.shelf.now) (g.V.Shelf.read_faults c.args.shelf.now) (g.V.Shelf.put_faults c.args.shelf.now) (g.K.Sink.taken c.args.out.now) (g.K.Sink.faults c.args.out.now) (g.R.Sink.taken c.args.err.now) (g.R.Sink.faults c.args.err.now)) (seen (g.V.Shelf.held c.read_and_run.new.shelf) (g.V.Shelf.read_faults c.read_and_run.new.shelf) (g.V.Shelf.put_faults c.read_and_run.new.shelf) (g.K.Sink.taken c.read_and_run.new.out) (g.K.Sink.faults c.read_and_run.new.out) (g.R.Sink.taken c.read_and_run.new.err) (g.R.Sink.faults c.read_and_run.new.err))
+    (too_many_threads c.args.plan.now) c.read_and_run.result (sym c.in-None.ensures) c.read_and_run.ensures.ends

@@ -1,19 +1,28 @@
-use Rattle.std.proofs.Common.{List, ◌∷◌, [], ◌++◌, map, subst, ap, ◌∙◌}
-use Rattle.ss_top.specs.Answer.{sheets, stats_text}
-use Rattle.ss_library.specs.declared.kinds.Any.{Any}
-use Rattle.ss_model.specs.End.{text_of, final_line}
-use Rattle.ss_library.specs.Make.{Made}
-use Rattle.ss_top.specs.Judge.{Prints}
-use Rattle.ss_top.proofs.Judging.{runs_to}
+use Rattle.std.proofs.Common.{◌≡◌, arith, ap, ◌∙◌}
+use Rattle.ss_top.proofs.Simulating.{run_accepted, run_undivided, divided_some, divided_few}
+use Rattle.ss_part.specs.Division.{Division}
+use Rattle.ss_part.specs.Assigned.{refusal}
 use Rattle.ss_top.proofs.simulate.run_graph.Goals as goal
 
-pub returns-in-Ok-sheet_of : goal.returns-in-Ok-sheet_of
-returns-in-Ok-sheet_of c =
-    let made : Made = record { elements = c.args.model.elements.items; wires = c.args.model.wires } in
-    let left : List Any = c.in-Ok.simulated.serial.state.components in
-    let texts = map text_of c.in-Ok.simulated.lines.items ++ final_line c.in-Ok.simulated.time ∷ [] in (
-      left,
-      runs_to c.args.graph.now c.args.options.now.stop_at made texts left c.requires.made
-          (subst (λ n. Prints made (record { origin = 0; stop = n; exit = c.args.graph.now.options.exit_period }) texts left) c.stop_time-stop.ensures.is c.in-Ok.ensures),
-      c.in-Ok-sheet_of.ensures ∙ ap (λ (xs : List Any). sheets c.args.options.now.stats (stats_text c.args.graph.now xs)) c.elements.ensures,
-    )
+pub returns-in-Err : goal.returns-in-Err
+returns-in-Err g c = λ name.
+    run_undivided c.args.graph name c.args.ran.now.workers.items c.args.options.now c.part_count-parts.result c.in-Err.fault c.undivided.result c.part_count-parts.ensures c.in-Err.ensures.err c.undivided.ensures
+
+pub run_parts-requires-clause-some : goal.run_parts-requires-clause-some
+run_parts-requires-clause-some g c =
+    let parts : c.in-Ok.partition.parts ≡ c.part_count-parts.result = ap (λ (d : Division). d.parts) c.in-Ok.ensures.ok.1 in
+    let some = divided_some c.args.graph c.part_count-parts.result c.args.options.now.spread.how c.in-Ok.ensures.ok.0 in
+    omega (arith, parts, some)
+
+pub run_parts-requires-clause-few_parts : goal.run_parts-requires-clause-few_parts
+run_parts-requires-clause-few_parts g c =
+    let parts : c.in-Ok.partition.parts ≡ c.part_count-parts.result = ap (λ (d : Division). d.parts) c.in-Ok.ensures.ok.1 in
+    let few = divided_few c.args.graph c.part_count-parts.result c.args.options.now.spread.how c.in-Ok.ensures.ok.0 in
+    omega (arith, parts, few)
+
+pub returns-in-Ok-run_parts : goal.returns-in-Ok-run_parts
+returns-in-Ok-run_parts g c = λ name.
+    run_accepted c.args.graph name c.run_parts.new.ran.workers.items c.args.options.now c.in-Ok.partition.parts c.in-Ok-run_parts.printed
+    (ap (λ (d : Division). d.parts) c.in-Ok.ensures.ok.1 ∙ c.part_count-parts.ensures)
+    (ap (λ n. refusal c.args.graph n c.args.options.now.spread.how) (ap (λ (d : Division). d.parts) c.in-Ok.ensures.ok.1) ∙ c.in-Ok.ensures.ok.0)
+    c.in-Ok-run_parts.ensures

@@ -2,7 +2,7 @@ use Rattle.std.proofs.Common.{◌≡◌, inl, inr, ◌∙◌, ap, sym, refl, ◌
 use Rattle.ss_graph.specs.declared.graph.Part.{Part}
 use Rattle.ss_library.specs.declared.kinds.Any.{Any}
 use Rattle.ss_top.specs.Answer.{stats_rows}
-use Rattle.ss_top.proofs.simulate.stats_of.Goals as goal
+use Rattle.ss_top.proofs.sheets.stats_of.Goals as goal
 
 no_parts : (cs : List Part) (xs : List Any) → length cs ≡ 0 → stats_rows cs xs ≡ []
 no_parts [] xs h = refl
