@@ -18,5 +18,5 @@ loop-taker-preserved c = elim c.if-taker-giver.branch [
       c.loop-taker.invariant
   | else-taker-giver w ↦
       lists-own c.args.worker.now.run c.args.windows c.args.giver c.loop-taker.taker c.args.text.now.items c.if-taker-giver.text.items (sym w.if-taker-giver.false)
-    (subst (λ (t : Vec ℕ Global). Lists c.args.worker.now.run c.args.windows c.args.giver c.loop-taker.taker c.args.text.now.items t.items) (sym w.text-is) c.loop-taker.invariant)
+      (subst (λ (t : Vec ℕ Global). Lists c.args.worker.now.run c.args.windows c.args.giver c.loop-taker.taker c.args.text.now.items t.items) (sym w.text-is) c.loop-taker.invariant)
 ]
