@@ -1,10 +1,11 @@
 -- Texts of fat trees.
-use Rattle.std.proofs.Common.{◌≡◌, ℕ, zero, suc, ◌+◌, ◌*◌, ◌%◌, ◌<◌, ◌≤◌, ◌==◌, List, [], ◌∷◌, length, get_or, drop, refl, ap, sym, subst, ◌∙◌, arith, Bool, true, false}
-use Rattle.mr_topo.specs.Shape.{Spells}
-use Rattle.mr_topo.proofs.Shapes.{spells-once}
+use Rattle.std.proofs.Common.{◌≡◌, ℕ, zero, suc, ◌+◌, ◌*◌, ◌%◌, ◌<◌, ◌≤◌, ◌==◌, List, [], ◌∷◌, length, get_or, drop, refl, ap, sym, subst, ◌∙◌, arith, Bool, true, false, not, nat_le, ◌&&◌, if◌then◌else◌, Option, Some, None}
+use Rattle.mr_topo.specs.Shape.{Spells, reading, all_below}
+use Rattle.mr_topo.proofs.Reading.{full, spells-from}
+use Rattle.mr_topo.proofs.Shapes.{spells-once, below-all, all-below}
 use Rattle.mr_fattree.specs.declared.Level.{Level}
 use Rattle.mr_fattree.proofs.Numbers.{down_read, up_read}
-use Rattle.mr_fattree.specs.Tree.{IsLevel, IsTree, IsShape, numbers, levels_of, down_at, up_at}
+use Rattle.mr_fattree.specs.Tree.{IsLevel, IsTree, IsShape, numbers, levels_of, down_at, up_at, before, downs, is_level, is_tree, tree_by, tree_of}
 
 -- levels of numbers, from a place on
 two-levels : (ns : List ℕ) (i : ℕ) → suc i < length ns → levels_of (drop i ns) ≡ record { down = get_or ns i 0; up = get_or ns (suc i) 0 } ∷ levels_of (drop (suc (suc i)) ns)
@@ -132,3 +133,71 @@ level_read ls l d b h x = subst (λ (n : ℕ). IsLevel n (up_at ls l) b) (down_r
 
 pub level_there : (ls : List Level) (l : ℕ) (d : Level) (b : Bool) → l < length ls → IsLevel (down_at ls l) (up_at ls l) b → IsLevel (get_or ls l d).down (get_or ls l d).up b
 level_there ls l d b h x = subst (λ (n : ℕ). IsLevel n (get_or ls l d).up b) (sym (down_read ls l d h)) (subst (λ (n : ℕ). IsLevel (down_at ls l) n b) (sym (up_read ls l d h)) x)
+
+-- the tree of a text, both ways
+
+level-test : (d u : ℕ) (last : Bool) → IsLevel d u last → is_level d u last ≡ true
+level-test d u true h =
+    let z : (u == 0) ≡ true = h.top in
+    grind (arith, h.some, h.few, h.few_up, z)
+level-test d u false h =
+    let z : (u == 0) ≡ false = h.top in
+    grind (arith, h.some, h.few, h.few_up, z)
+
+top-of : (u : ℕ) (last : Bool) → (if last then u == 0 else not (u == 0)) ≡ true → (u == 0) ≡ last
+top-of u true e = e
+top-of u false e = grind (arith, e)
+
+level-parts : (d u : ℕ) (t : Bool) → (nat_le 1 d && nat_le d 128 && nat_le u 128 && t) ≡ true → (1 ≤ d) × (d ≤ 128) × (u ≤ 128) × (t ≡ true)
+level-parts d u true e = grind (arith, e)
+level-parts d u false e = absurd (grind (arith, e))
+
+level-is : (d u : ℕ) (last : Bool) → is_level d u last ≡ true → IsLevel d u last
+level-is d u last e = let h = level-parts d u (if last then u == 0 else not (u == 0)) e in record { some = h.0; few = h.1; few_up = h.2; top = top-of u last h.3 }
+
+tree-tests : (a d e : ℕ) (c : Bool) → 1 ≤ a → a ≤ 4 → c ≡ true → d ≤ 65536 → e ≤ 4096 → (nat_le 1 a && nat_le a 4 && c && nat_le d 65536 && nat_le e 4096) ≡ true
+tree-tests a d e true l m h p q = grind (arith, l, m, p, q)
+tree-tests a d e false l m h p q = absurd (grind (arith, h))
+
+tree-tested : (a d e : ℕ) (c : Bool) → (nat_le 1 a && nat_le a 4 && c && nat_le d 65536 && nat_le e 4096) ≡ true → (1 ≤ a) × (a ≤ 4) × (c ≡ true) × (d ≤ 65536) × (e ≤ 4096)
+tree-tested a d e true h = grind (arith, h)
+tree-tested a d e false h = absurd (grind (arith, h))
+
+abbrev level-at : List Level → ℕ → Bool
+level-at ls l = is_level (down_at ls l) (up_at ls l) (l + 1 == length ls)
+
+is_tree-from : (ls : List Level) → IsTree ls → is_tree ls ≡ true
+is_tree-from ls t = tree-tests (length ls) (before ls (length ls)) (downs ls) (all_below (length ls) (level-at ls)) t.some t.few (all-below (length ls) (level-at ls) (λ l m. level-test (down_at ls l) (up_at ls l) (l + 1 == length ls) (t.levels l m))) t.routers t.endpoints
+
+pub is_tree-gives : (ls : List Level) → is_tree ls ≡ true → IsTree ls
+is_tree-gives ls e =
+    let h = tree-tested (length ls) (before ls (length ls)) (downs ls) (all_below (length ls) (level-at ls)) e in
+    record { some = h.0; few = h.1; levels = λ l m. level-is (down_at ls l) (up_at ls l) (l + 1 == length ls) (below-all (length ls) (level-at ls) h.2 l m); routers = h.3; endpoints = h.4 }
+
+odd-test : (n : ℕ) → n ≡ 1 → (n == 1) ≡ true
+odd-test n e = grind (arith, e)
+
+choose : (a b : Bool) (ls : List Level) → a ≡ true → b ≡ true → (if a && b then Some ls else None) ≡ Some ls
+choose a b ls e f = rw (e, f) refl
+
+pub tree_of-is : (ls : List Level) (text : List ℕ) → IsShape ls text → tree_of text ≡ Some ls
+unfolding tree_of
+tree_of-is ls text h =
+    let s = shape_spells ls text h in
+    let t = has-top ls h.tree in
+    let r : reading 44 58 0 text ≡ Some (numbers ls) = ap (reading 44 58 0) (sym s.text_is) ∙ full (numbers ls) 44 58 refl refl s.some (record { least = s.least; most = s.most }) in
+    let q : levels_of (numbers ls) ≡ ls = numbers-levels ls t in
+    ap tree_by r ∙ ap (λ (x : List Level). if (length (numbers ls) % 2 == 1) && is_tree x then Some x else None) q ∙ choose (length (numbers ls) % 2 == 1) (is_tree ls) ls (odd-test (length (numbers ls) % 2) (numbers-are ls t).odd) (is_tree-from ls h.tree)
+
+none-by : (ns text : List ℕ) (a b : Bool) → (length ns % 2 == 1) ≡ a → is_tree (levels_of ns) ≡ b → Spells 44 58 ns text → ((ls : List Level) → IsShape ls text → ⊥) → (if a && b then Some (levels_of ns) else None) ≡ None
+none-by ns text true true e f s h = absurd (h (levels_of ns) (shape_from ns text s (let o : length ns % 2 ≡ 1 = grind (arith, e) in o) (is_tree-gives (levels_of ns) f)))
+none-by ns text true false e f s h = refl
+none-by ns text false b e f s h = refl
+
+none-of : (text : List ℕ) (o : Option (List ℕ)) → reading 44 58 0 text ≡ o → ((ls : List Level) → IsShape ls text → ⊥) → tree_by o ≡ None
+none-of text None e h = refl
+none-of text (Some ns) e h = none-by ns text (length ns % 2 == 1) (is_tree (levels_of ns)) refl refl (spells-from 44 58 text ns e) h
+
+pub tree_of-none : (text : List ℕ) → ((ls : List Level) → IsShape ls text → ⊥) → tree_of text ≡ None
+unfolding tree_of
+tree_of-none text h = none-of text (reading 44 58 0 text) refl h

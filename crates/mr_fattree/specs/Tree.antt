@@ -1,10 +1,10 @@
 -- Fat trees after Merlin's. Level l has routers (l, group, member). A router's ports down come before its ports up, and the last level
 -- has none up.
-use Rattle.std.specs.Prelude.{◌≡◌, ℕ, ◌+◌, ◌-◌, ◌*◌, ◌/◌, ◌%◌, ◌<◌, ◌≤◌, ◌==◌, zero, suc, List, [], ◌∷◌, length, take, drop, Bool, nat_lt, if◌then◌else◌, Some}
+use Rattle.std.specs.Prelude.{◌≡◌, ℕ, ◌+◌, ◌-◌, ◌*◌, ◌/◌, ◌%◌, ◌<◌, ◌≤◌, ◌==◌, ◌&&◌, zero, suc, List, [], ◌∷◌, length, take, drop, Bool, not, nat_lt, nat_le, if◌then◌else◌, Option, Some, None}
 use Rattle.mr_flow.specs.declared.Peer.{Peer}
 use Rattle.mr_flow.specs.declared.Peer.TheVariants.{Router, Host}
 use Rattle.mr_topo.specs.Routes.{Routes}
-use Rattle.mr_topo.specs.Shape.{spelled}
+use Rattle.mr_topo.specs.Shape.{spelled, reading, all_below}
 use Rattle.mr_fattree.specs.declared.Level.{Level}
 use Rattle.mr_fattree.specs.declared.Place.{Place}
 
@@ -116,3 +116,19 @@ pub record IsPlace (ls : List Level) (p : Place) : Type 0 where
 pub record IsShape (ls : List Level) (text : List ℕ) : Type 0 where
   pub tree : IsTree ls
   pub text_is : spelled 44 58 (numbers ls) ≡ text
+
+-- whether these are the ports of a level, which is the last one or not
+abbrev pub is_level : ℕ → ℕ → Bool → Bool
+is_level down up last = nat_le 1 down && nat_le down 128 && nat_le up 128 && (if last then up == 0 else not (up == 0))
+
+-- whether levels make a tree
+abbrev pub is_tree : List Level → Bool
+is_tree ls = nat_le 1 (length ls) && nat_le (length ls) 4 && all_below (length ls) (λ l. is_level (down_at ls l) (up_at ls l) (l + 1 == length ls)) && nat_le (before ls (length ls)) 65536 && nat_le (downs ls) 4096
+
+-- the levels of a text, where it is that of a tree
+abbrev pub tree_by : Option (List ℕ) → Option (List Level)
+tree_by None = None
+tree_by (Some ns) = if (length ns % 2 == 1) && is_tree (levels_of ns) then Some (levels_of ns) else None
+
+unfoldable pub tree_of : List ℕ → Option (List Level)
+tree_of text = tree_by (reading 44 58 0 text)

@@ -73,6 +73,13 @@ impl FatTree {
         let _ = &self.levels;
     }
 
+    /// The ports of each level, from the endpoints up.
+    pub fn levels(&self) -> &[Level]
+        ensures { result.now ≡ self.now }
+    {
+        &self.levels
+    }
+
     /// How many routers there are.
     pub fn routers(&self) -> u32
         ensures { result ≡ (fat_tree self.now).routers }

@@ -4,24 +4,7 @@ use Rattle.std.proofs.lemmas.Fmt.{decimal_digit, decimal_step}
 use Rattle.std.proofs.lemmas.Grind.{common_steps}
 use Rattle.std.proofs.lemmas.List.{append-nil}
 use Rattle.std.specs.Fmt.{decimal}
-use Rattle.mr_topo.specs.Shape.{spelled, Spells, is_digit}
-
--- a number from 1 to 256
-abbrev pub fits : ℕ → Bool
-fits n = nat_le 1 n && nat_le n 256
-
-abbrev pub with_digit : ℕ → ℕ → ℕ
-with_digit n c = n * 10 + (c - 48)
-
--- more numbers in front
-abbrev pub behind : List ℕ → Option (List ℕ) → Option (List ℕ)
-behind ns None = None
-behind ns (Some ms) = Some (ns ++ ms)
-
--- the numbers of a text, where n is what was read of the first
-abbrev pub reading : ℕ → ℕ → ℕ → List ℕ → Option (List ℕ)
-reading a b n [] = if n == 0 then None else Some (n ∷ [])
-reading a b n (c ∷ s) = if is_digit c then (if fits (with_digit n c) then reading a b (with_digit n c) s else None) else (if (c == a) && not (n == 0) then behind (n ∷ []) (reading b a 0 s) else None)
+use Rattle.mr_topo.specs.Shape.{spelled, Spells, is_digit, fits, with_digit, behind, reading}
 
 abbrev pub front : ℕ → List ℕ
 front zero = []

@@ -5,7 +5,7 @@ use Rattle.std.specs.Option.{option_map}
 use Rattle.mr_flow.specs.declared.Peer.{Peer}
 use Rattle.mr_flow.specs.declared.Peer.TheVariants.{Router, Host}
 use Rattle.mr_topo.specs.Routes.{Flow, Routes}
-use Rattle.mr_topo.specs.Shape.{spelled}
+use Rattle.mr_topo.specs.Shape.{spelled, reading, all_below}
 
 -- the sizes of the dimensions, and how many endpoints each router has
 pub record Grid : Type 0 where
@@ -138,3 +138,15 @@ pub record IsGrid (g : Grid) : Type 0 where
 pub record IsShape (g : Grid) (text : List ℕ) : Type 0 where
   pub grid : IsGrid g
   pub text_is : spelled 120 120 g.sizes ≡ text
+
+-- whether dimensions of these sizes make a grid
+abbrev pub is_grid : List ℕ → ℕ → Bool
+is_grid ks n = nat_le 1 (length ks) && nat_le (length ks) 4 && all_below (length ks) (λ d. nat_le 2 (slice_index ks d) && nat_le (slice_index ks d) 256) && nat_le (count_of ks) 65536 && nat_le (count_of ks * n) 4096
+
+-- the grid of a text and so many endpoints to a router, where the text is that of one
+abbrev pub grid_by : ℕ → Option (List ℕ) → Option Grid
+grid_by n None = None
+grid_by n (Some ks) = if is_grid ks n then Some (record { sizes = ks; local_ports = n }) else None
+
+unfoldable pub grid_of : List ℕ → ℕ → Option Grid
+grid_of text n = grid_by n (reading 120 120 0 text)

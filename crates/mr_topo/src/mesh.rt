@@ -67,6 +67,20 @@ impl Mesh {
         let _ = &self.local_ports;
     }
 
+    /// The sizes of the dimensions.
+    pub fn sizes(&self) -> &[u32]
+        ensures { result.now ≡ self.now.sizes }
+    {
+        &self.sizes
+    }
+
+    /// How many endpoints a router has.
+    pub fn local_ports(&self) -> u32
+        ensures { result ≡ self.now.local_ports }
+    {
+        self.local_ports
+    }
+
     /// How many routers there are.
     pub fn routers(&self) -> u32
         ensures { result ≡ (mesh self.now).routers }

@@ -1,5 +1,6 @@
 use Rattle.std.proofs.Common.{ap, ◌∙◌, arith}
-use Rattle.mr_topo.proofs.Reading.{behind, no-digit, no-end, no-next, reading-end, refused, spells-from}
+use Rattle.mr_topo.specs.Shape.{behind}
+use Rattle.mr_topo.proofs.Reading.{no-digit, no-end, no-next, reading-end, refused, spells-from}
 use Rattle.mr_topo.proofs.shape.numbers_in.Goals as goal
 use Rattle.mr_topo.proofs.shape.numbers_in.Goals.{then-current-eq0-via-then-current-eq0, then-current-eq0-via-else-current-eq0+then-current-gt-MOST, else-c-ge48-via-then-c-ge48+else-c-le57, else-c-ge48-via-else-c-ge48, else-c-next-via-then-c-next+else-current-ne0, else-c-next-via-else-c-next}
 

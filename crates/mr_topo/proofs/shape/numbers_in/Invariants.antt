@@ -1,6 +1,6 @@
 use Rattle.std.proofs.Common.{◌≡◌, ◌≤◌, false, drop}
 use Rattle.mr_topo.specs.Shape.{is_digit}
-use Rattle.mr_topo.proofs.Reading.{reading, behind}
+use Rattle.mr_topo.specs.Shape.{reading, behind}
 use Rattle.mr_topo.proofs.shape.numbers_in.Given as goal
 
 abbrev pub invariant-loop-c : goal.invariant-loop-c

@@ -1,0 +1,9 @@
+pub mod Numbers
+pub mod Chains
+pub mod Below
+pub mod Leasts
+pub mod Marked
+pub mod Sames
+pub mod Joined
+pub mod Alike
+pub mod Ranges

@@ -1,0 +1,6 @@
+use Rattle.std.proofs.Common.{◌≡◌, drop}
+use Rattle.ss_network.specs.Params.{given, param_text}
+use Rattle.ss_network.proofs.param.text_of.Given as goal
+
+abbrev pub invariant-loop-param : goal.invariant-loop-param
+invariant-loop-param l = given l.params (param_text l.name) ≡ given (drop l.param-index l.params) (param_text l.name)

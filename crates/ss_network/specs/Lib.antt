@@ -1,0 +1,7 @@
+pub mod Faults
+pub mod Params
+pub mod Asks
+pub mod Network
+pub mod Marks
+pub mod Joined
+pub mod Ranges
