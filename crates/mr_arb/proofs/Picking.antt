@@ -1,5 +1,5 @@
 -- Arbitration output by output.
-use Rattle.std.proofs.Common.{◌≡◌, ℕ, zero, suc, ◌+◌, ◌<◌, ◌≤◌, List, [], ◌∷◌, ◌++◌, length, ◌^◌, replicate, slice_get, refl, ap, sym, subst, ◌∙◌, arith, add-one, get_or, set, take, drop, Bool, true, false, not, nat_lt, append_assoc, ◌&&◌, Option, Some, None, ◌==◌, if◌then◌else◌, drop-cons, ◌≢◌}
+use Rattle.std.proofs.Common.{◌≡◌, ℕ, zero, suc, ◌+◌, ◌<◌, ◌≤◌, List, [], ◌∷◌, ◌++◌, length, ◌^◌, replicate, slice_get, refl, ap, sym, subst, ◌∙◌, arith, add-one, get_or, set, take, drop, Bool, true, false, not, append_assoc, ◌&&◌, Option, Some, None, ◌==◌, if◌then◌else◌, drop-cons, ◌≢◌}
 use Rattle.std.specs.List.{filter, fold, All}
 use Rattle.std.proofs.lemmas.Grind.{common_steps}
 use Rattle.std.proofs.lemmas.List.Elements.{filter-append, All-filter, All-tail, All-more}
@@ -8,7 +8,7 @@ use Rattle.std.proofs.lemmas.List.{append-nil, length-replicate, take_all, get_o
 use Rattle.mr_arb.specs.declared.Request.{Request}
 use Rattle.mr_arb.specs.declared.turn.Turn.{Turn}
 use Rattle.mr_arb.specs.declared.turn.Turn.TheVariants.{RoundRobin, LeastRecent, Age}
-use Rattle.mr_arb.specs.Arbitrating.{rank, better, least, winner, free, turn_of, turn_after, passed, grant_of, left, picks, Fits, EachFits, IsArbiter, marked}
+use Rattle.mr_arb.specs.Arbitrating.{wins, better, best, winner, free, turn_of, turn_after, passed, grant_of, left, picks, Fits, EachFits, IsArbiter, marked}
 use Rattle.mr_arb.specs.declared.ArbKind.{ArbKind}
 use Rattle.mr_arb.specs.declared.ArbKind.TheVariants.{RoundRobin as RoundRobinKind, LeastRecent as LeastRecentKind, Age as AgeKind}
 use Rattle.mr_arb.proofs.Orders.{order_range, order_to_end}
@@ -30,17 +30,17 @@ is-free granted q = not (get_or granted q.input false)
 take-one : (qs : List Request) (i : ℕ) (q : Request) → i < length qs → q ≡ get_or qs i q → take (i + 1) qs ≡ take i qs ++ q ∷ []
 take-one qs i q l e = take_more qs i q l ∙ ap (λ (x : Request). take i qs ++ x ∷ []) (sym e)
 
-pub winner_more : (slots output : ℕ) (turn : Turn) (granted : List Bool) (qs : List Request) (i : ℕ) (q : Request) → i < length qs → q ≡ get_or qs i q → get_or granted q.input false ≡ false → q.output ≡ output → winner slots output turn (free granted (take (i + 1) qs)) ≡ better (rank slots turn) (winner slots output turn (free granted (take i qs))) q
+pub winner_more : (slots output : ℕ) (turn : Turn) (granted : List Bool) (qs : List Request) (i : ℕ) (q : Request) → i < length qs → q ≡ get_or qs i q → get_or granted q.input false ≡ false → q.output ≡ output → winner slots output turn (free granted (take (i + 1) qs)) ≡ better (wins slots turn) (winner slots output turn (free granted (take i qs))) q
 winner_more slots output turn granted qs i q l e g o =
     let f : is-free granted q ≡ true = rw g refl in
     let a : asks output q ≡ true = grind (arith, o) in
-    ap (λ (ys : List Request). winner slots output turn (free granted ys)) (take-one qs i q l e) ∙ ap (winner slots output turn) (keep-one (is-free granted) (take i qs) q f) ∙ ap (least (rank slots turn)) (keep-one (asks output) (free granted (take i qs)) q a) ∙ fold-append (better (rank slots turn)) None (filter (asks output) (free granted (take i qs))) (q ∷ [])
+    ap (λ (ys : List Request). winner slots output turn (free granted ys)) (take-one qs i q l e) ∙ ap (winner slots output turn) (keep-one (is-free granted) (take i qs) q f) ∙ ap (best (wins slots turn)) (keep-one (asks output) (free granted (take i qs)) q a) ∙ fold-append (better (wins slots turn)) None (filter (asks output) (free granted (take i qs))) (q ∷ [])
 
 skip-by : (slots output : ℕ) (turn : Turn) (granted : List Bool) (xs : List Request) (q : Request) (g : Bool) → get_or granted q.input false ≡ g → (get_or granted q.input false ≡ false → q.output ≡ output → ⊥) → winner slots output turn (free granted (xs ++ q ∷ [])) ≡ winner slots output turn (free granted xs)
 skip-by slots output turn granted xs q true g n = ap (winner slots output turn) (drop-one (is-free granted) xs q (rw g refl))
 skip-by slots output turn granted xs q false g n =
     let a : asks output q ≡ false = grind (arith, n g) in
-    ap (winner slots output turn) (keep-one (is-free granted) xs q (rw g refl)) ∙ ap (least (rank slots turn)) (drop-one (asks output) (free granted xs) q a)
+    ap (winner slots output turn) (keep-one (is-free granted) xs q (rw g refl)) ∙ ap (best (wins slots turn)) (drop-one (asks output) (free granted xs) q a)
 
 pub winner_skip : (slots output : ℕ) (turn : Turn) (granted : List Bool) (qs : List Request) (i : ℕ) (q : Request) → i < length qs → q ≡ get_or qs i q → (get_or granted q.input false ≡ false → q.output ≡ output → ⊥) → winner slots output turn (free granted (take (i + 1) qs)) ≡ winner slots output turn (free granted (take i qs))
 winner_skip slots output turn granted qs i q l e n = ap (λ (ys : List Request). winner slots output turn (free granted ys)) (take-one qs i q l e) ∙ skip-by slots output turn granted (take i qs) q (get_or granted q.input false) refl n
@@ -112,15 +112,15 @@ free_left granted qs (Some q) h = free-left granted qs q (h q refl)
 
 -- the winner is one of the requests
 
-better-by : (f : Request → ℕ) (P : Request → Type 0) (p x a : Request) (b : Bool) → P p → P x → (if b then Some x else Some p) ≡ Some a → P a
+better-by : (f : Request → Request → Bool) (P : Request → Type 0) (p x a : Request) (b : Bool) → P p → P x → (if b then Some x else Some p) ≡ Some a → P a
 better-by f P p x a true pp px e = subst P (some-same x a e) px
 better-by f P p x a false pp px e = subst P (some-same p a e) pp
 
-better-in : (f : Request → ℕ) (P : Request → Type 0) (o : Option Request) (x a : Request) → ((q : Request) → o ≡ Some q → P q) → P x → better f o x ≡ Some a → P a
+better-in : (f : Request → Request → Bool) (P : Request → Type 0) (o : Option Request) (x a : Request) → ((q : Request) → o ≡ Some q → P q) → P x → better f o x ≡ Some a → P a
 better-in f P None x a h px e = subst P (some-same x a e) px
-better-in f P (Some p) x a h px e = better-by f P p x a (nat_lt (f x) (f p)) (h p refl) px e
+better-in f P (Some p) x a h px e = better-by f P p x a (f x p) (h p refl) px e
 
-winner-in-from : (f : Request → ℕ) (P : Request → Type 0) (xs : List Request) (o : Option Request) (q : Request) → ((a : Request) → o ≡ Some a → P a) → All P xs → fold (better f) o xs ≡ Some q → P q
+winner-in-from : (f : Request → Request → Bool) (P : Request → Type 0) (xs : List Request) (o : Option Request) (q : Request) → ((a : Request) → o ≡ Some a → P a) → All P xs → fold (better f) o xs ≡ Some q → P q
 winner-in-from f P [] o q h all e = h q e
 winner-in-from f P (x ∷ xs) o q h all e = winner-in-from f P xs (better f o x) q (λ a. better-in f P o x a h (all 0 x (omega arith))) (All-tail P x xs all) e
 
@@ -128,7 +128,7 @@ none-some : {X : Type 0} (x : X) → None ≡ Some x → ⊥
 none-some x e = grind (arith, e)
 
 pub winner_in : (P : Request → Type 0) (slots output : ℕ) (turn : Turn) (granted : List Bool) (qs : List Request) (q : Request) → All P qs → winner slots output turn (free granted qs) ≡ Some q → P q
-winner_in P slots output turn granted qs q all e = winner-in-from (rank slots turn) P (filter (asks output) (free granted qs)) None q (λ a n. absurd (none-some a n)) (All-filter (asks output) P (free granted qs) (All-filter (is-free granted) P qs all)) e
+winner_in P slots output turn granted qs q all e = winner-in-from (wins slots turn) P (filter (asks output) (free granted qs)) None q (λ a n. absurd (none-some a n)) (All-filter (asks output) P (free granted qs) (All-filter (is-free granted) P qs all)) e
 
 -- output by output
 
@@ -162,7 +162,7 @@ left-all P (Some q) qs h = All-filter (λ p. not (p.input == q.input)) P qs h
 pub picks-fit : (slots output : ℕ) (turns : List Turn) (qs : List Request) → All (λ q. q.slot < slots) qs → EachFits slots turns → EachFits slots (picks slots output turns qs).0
 picks-fit slots output [] qs a h o turn e = h o turn e
 picks-fit slots output (t ∷ turns) qs a h zero turn e =
-    subst (Fits slots) (some-same (turn_after slots t (winner slots output t qs)) turn e) (after-fits slots t (winner slots output t qs) (λ q w. winner-in-from (rank slots t) (λ p. p.slot < slots) (filter (asks output) qs) None q (λ x n. absurd (none-some x n)) (All-filter (asks output) (λ p. p.slot < slots) qs a) w) (h 0 t refl))
+    subst (Fits slots) (some-same (turn_after slots t (winner slots output t qs)) turn e) (after-fits slots t (winner slots output t qs) (λ q w. winner-in-from (wins slots t) (λ p. p.slot < slots) (filter (asks output) qs) None q (λ x n. absurd (none-some x n)) (All-filter (asks output) (λ p. p.slot < slots) qs a) w) (h 0 t refl))
 picks-fit slots output (t ∷ turns) qs a h (suc o) turn e = picks-fit slots (output + 1) turns (left (winner slots output t qs) qs) (left-all (λ p. p.slot < slots) (winner slots output t qs) qs a) (λ k x n. h (suc k) x n) o turn e
 
 pub length_picks : (slots output : ℕ) (turns : List Turn) (qs : List Request) → length (picks slots output turns qs).0 ≡ length turns

@@ -1,6 +1,6 @@
 -- Arbiters after Merlin's: which request each output of a crossbar grants. Outputs are served in ascending order, and an input that
 -- was granted has no further grant.
-use Rattle.std.specs.Prelude.{ℕ, ◌+◌, ◌-◌, ◌*◌, ◌^◌, ◌<◌, ◌≤◌, ◌≡◌, ◌==◌, List, [], ◌∷◌, length, slice_get, slice_set, filter, fold, Bool, true, false, not, slice_index_or, nat_le, nat_lt, if◌then◌else◌, Option, Some, None}
+use Rattle.std.specs.Prelude.{ℕ, ◌+◌, ◌-◌, ◌^◌, ◌<◌, ◌≤◌, ◌≡◌, ◌==◌, ◌&&◌, ◌||◌, List, [], ◌∷◌, length, slice_get, slice_set, filter, fold, Bool, true, false, not, slice_index_or, nat_le, nat_lt, if◌then◌else◌, Option, Some, None}
 use Rattle.std.specs.List.{range_with_len}
 use Rattle.mr_arb.specs.Slots.{IsOrder, place_of, to_end}
 use Rattle.mr_arb.specs.declared.Request.{Request}
@@ -9,23 +9,28 @@ use Rattle.mr_arb.specs.declared.ArbKind.TheVariants.{RoundRobin as RoundRobinKi
 use Rattle.mr_arb.specs.declared.turn.Turn.{Turn}
 use Rattle.mr_arb.specs.declared.turn.Turn.TheVariants.{RoundRobin, LeastRecent, Age}
 
+-- how many slots behind the first one a slot comes in cyclic order
+abbrev pub cyclic_distance : ℕ → ℕ → ℕ → ℕ
+cyclic_distance slots first slot = if nat_le first slot then slot - first else slot + slots - first
+
 -- An output's turn. Round robin keeps the slot to begin with, least recently used the list of all slots in the order of their last
--- use. The least rank wins: the first in cyclic order of slots, the first of the list, or the least born and then the lowest slot.
-abbrev pub rank : ℕ → Turn → Request → ℕ
-rank slots (RoundRobin first) q = if nat_le first q.slot then q.slot - first else q.slot + slots - first
-rank slots (LeastRecent order) q = place_of order q.slot
-rank slots Age q = q.born * slots + q.slot
+-- use. Whether a request wins over another: it comes first in cyclic order of slots, it comes first in the list, or its packet was
+-- made earlier, or at the same time and its slot is lower.
+abbrev pub wins : ℕ → Turn → Request → Request → Bool
+wins slots (RoundRobin first) q p = nat_lt (cyclic_distance slots first q.slot) (cyclic_distance slots first p.slot)
+wins slots (LeastRecent order) q p = nat_lt (place_of order q.slot) (place_of order p.slot)
+wins slots Age q p = nat_lt q.born p.born || (q.born == p.born && nat_lt q.slot p.slot)
 
--- the first request of least rank
-abbrev pub better : (Request → ℕ) → Option Request → Request → Option Request
-better f None q = Some q
-better f (Some p) q = if nat_lt (f q) (f p) then Some q else Some p
+-- the first request over which none wins
+abbrev pub better : (Request → Request → Bool) → Option Request → Request → Option Request
+better beats None q = Some q
+better beats (Some p) q = if beats q p then Some q else Some p
 
-abbrev pub least : (Request → ℕ) → List Request → Option Request
-least f qs = fold (better f) None qs
+abbrev pub best : (Request → Request → Bool) → List Request → Option Request
+best beats qs = fold (better beats) None qs
 
 abbrev pub winner : ℕ → ℕ → Turn → List Request → Option Request
-winner slots output turn qs = least (rank slots turn) (filter (λ q. q.output == output) qs)
+winner slots output turn qs = best (wins slots turn) (filter (λ q. q.output == output) qs)
 
 -- the turn after a slot was granted
 abbrev pub passed : ℕ → Turn → ℕ → Turn

@@ -4,7 +4,7 @@
 
 ghost use Rattle.std.specs.Prelude.{◌≡◌, ◌<◌, ◌≤◌, ◌==◌, ◌++◌, ◌&&◌, ℕ, All, take, drop, length, filter, replicate, slice_get, slice_index, not, ◌+◌, ◌^◌, IfOk, IfSome, Some};
 ghost use Rattle.std.specs.Option.{ForSome};
-ghost use Rattle.mr_arb.specs.Arbitrating.{Fits, EachFits, picks, rank, better, least, winner, free, marked, grant_of, turn_of};
+ghost use Rattle.mr_arb.specs.Arbitrating.{Fits, EachFits, picks, wins, better, winner, free, marked, grant_of, turn_of};
 
 mod order;
 mod turn;
@@ -186,7 +186,7 @@ fn preferred(turn: &Turn, slots: u32, best: Option<Request>, request: Request) -
     requires turn { Fits slots turn.now }
     requires slot { request.slot < slots }
     requires best { ForSome best (λ b. b.slot < slots) }
-    ensures { Some result ≡ better (rank slots turn.now) best request }
+    ensures { Some result ≡ better (wins slots turn.now) best request }
 {
     match best {
         Some(other) if !turn.prefers(slots, &request, &other) => other,

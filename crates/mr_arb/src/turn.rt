@@ -1,8 +1,8 @@
 //! Whose turn it is at an output.
 
-ghost use Rattle.std.specs.Prelude.{◌≡◌, ◌<◌, ◌≤◌, ◌+◌, ◌-◌, ◌*◌, nat_lt, nat_le, if◌then◌else◌, IfOk};
+ghost use Rattle.std.specs.Prelude.{◌≡◌, ◌<◌, ◌≤◌, ◌==◌, ◌&&◌, ◌||◌, nat_lt, IfOk};
 ghost use Rattle.std.specs.Option.{ForSome};
-ghost use Rattle.mr_arb.specs.Arbitrating.{rank, turn_after, turn_of, Fits};
+ghost use Rattle.mr_arb.specs.Arbitrating.{cyclic_distance, wins, turn_after, turn_of, Fits};
 
 use crate::{ArbKind, Order, Request};
 use std::alloc::{AllocError, Global};
@@ -37,14 +37,14 @@ impl Turn {
         requires turn { Fits slots self.now }
         requires slot { request.now.slot < slots }
         requires other { other.now.slot < slots }
-        ensures { result ≡ nat_lt (rank slots self.now request.now) (rank slots self.now other.now) }
+        ensures { result ≡ wins slots self.now request.now other.now }
     {
         match self {
             Turn::RoundRobin(first) => {
                 distance(*first, slots, request.slot) < distance(*first, slots, other.slot)
             }
             Turn::LeastRecent(order) => order.is_before(request.slot, other.slot),
-            Turn::Age => age_of(slots, request) < age_of(slots, other),
+            Turn::Age => is_older(request, other),
         }
     }
 
@@ -72,7 +72,7 @@ impl Turn {
 fn distance(first: u32, slots: u32, slot: u32) -> u64
     requires first { first < slots }
     requires slot { slot < slots }
-    ensures { result ≡ (if nat_le first slot then slot - first else slot + slots - first) }
+    ensures { result ≡ cyclic_distance slots first slot }
 {
     if first <= slot {
         (slot - first) as u64
@@ -81,9 +81,9 @@ fn distance(first: u32, slots: u32, slot: u32) -> u64
     }
 }
 
-// The rank of a request by its packet's age.
-fn age_of(slots: u32, request: &Request) -> u128
-    ensures { result ≡ request.now.born * slots + request.now.slot }
+// Whether a request's packet was made before another's, or at the same time for a lower slot.
+fn is_older(request: &Request, other: &Request) -> bool
+    ensures { result ≡ (nat_lt request.now.born other.now.born || (request.now.born == other.now.born && nat_lt request.now.slot other.now.slot)) }
 {
-    request.born as u128 * slots as u128 + request.slot as u128
+    request.born < other.born || (request.born == other.born && request.slot < other.slot)
 }
