@@ -5,7 +5,7 @@ use Rattle.std.proofs.lemmas.List.Sorted.{IsPermutation-sym, IsPermutation-trans
 use Rattle.std.specs.List.Sorted.{IsPermutation}
 use Rattle.std.specs.Cmp.{IsTotalOrder, upto}
 use Rattle.std.specs.Cmp.Rules.{comparing}
-use Rattle.std.specs.Result.{OnOk}
+use Rattle.std.specs.Result.{OnOk, OnErr}
 use Rattle.std.specs.Option.{option_copied, option_to_list, MatchOption, IfSome, IfNone}
 use Rattle.std.specs.Ordering.{is_lt, is_gt, ordering_reverse}
 use Rattle.std.specs.declared.cmp.Ordering.{Ordering}
@@ -35,6 +35,10 @@ pub on_ok : {A E : Type 0} (r : Result A E) {P Q : Type 0} → OnOk r P → (P �
 on_ok (Ok x) p f = f p
 on_ok (Err e) p f = tt
 
+pub of_err : {A E : Type 0} (r : Result A E) {P : Type 0} → P → OnErr r P
+of_err (Ok x) p = tt
+of_err (Err e) p = p
+
 module _ {L : Type 0} where
   latest_total : IsTotalOrder (latest_first {L = L})
   latest_total = search (comparing, rules) depth 12
@@ -46,7 +50,7 @@ module _ {L : Type 0} where
   pub chain : (x y z : Filed L) → is_before y x ≡ false → is_before z y ≡ false → is_before z x ≡ false
   chain x y z h k = sym (tells_too z x) ∙ upto latest_total z y x (tells_too z y ∙ k) (tells_too y x ∙ h)
 
-  in_left : (z : Filed L) (xs ys : List (Filed L)) → In z xs → In z (xs ++ ys)
+  pub in_left : (z : Filed L) (xs ys : List (Filed L)) → In z xs → In z (xs ++ ys)
   in_left z [] ys i = absurd i
   in_left z (x ∷ xs) ys (inl e) = inl e
   in_left z (x ∷ xs) ys (inr i) = inr (in_left z xs ys i)

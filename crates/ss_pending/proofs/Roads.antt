@@ -1,13 +1,15 @@
 -- Lanes side by side, and a first that stands ahead.
-use Rattle.std.proofs.Common.{◌≡◌, ℕ, ◌+◌, ◌<◌, inl, inr, Bool, true, false, List, [], ◌∷◌, ◌++◌, Option, Some, None, zero, suc, refl, sym, ap, ◌∙◌, subst, arith, length, set, take, append_assoc, append-nil, cond, get_or, Result, Ok, Err, OnOk, OnErr}
+use Rattle.std.proofs.Common.{◌≡◌, ℕ, ◌+◌, ◌<◌, ◌≤◌, ◌⊎◌, inl, inr, Bool, true, false, List, [], ◌∷◌, ◌++◌, Option, Some, None, zero, suc, refl, sym, ap, ◌∙◌, subst, arith, length, set, take, append_assoc, append-nil, cond, get_or, Result, Ok, Err, OnOk, OnErr}
+use Rattle.std.proofs.lemmas.Bool.{false≢true}
+use Rattle.std.proofs.lemmas.List.{set-get_or}
 use Rattle.std.proofs.lemmas.List.Sorted.{IsPermutation-sym, IsPermutation-trans, IsPermutation-refl, IsPermutation-append_left, IsPermutation-append_right, IsPermutation-append_comm, IsPermutation-cons, IsPermutation-middle}
 use Rattle.std.specs.List.Sorted.{IsPermutation}
 use Rattle.std.specs.Option.{option_to_list, IfSome, IfNone}
 use Rattle.std.proofs.lemmas.Option.{IfSome_then}
 use Rattle.ss_pending.specs.declared.filed.Filed.{Filed}
-use Rattle.ss_pending.specs.Filed.{is_before, In, FirstOf, Takes, leads, first_of, in_order, all, row, IsLeader}
+use Rattle.ss_pending.specs.Filed.{is_before, In, FirstOf, Takes, leads, first_of, in_order, all, row, IsLeader, goes_ahead}
 use Rattle.ss_pending.proofs.Sorting.{asym, upper, upper_at, in_permutation}
-use Rattle.ss_pending.proofs.Lanes.{chain, taken_is_first, first_of_both}
+use Rattle.ss_pending.proofs.Lanes.{chain, in_left, taken_is_first, first_of_both}
 
 module _ {L : Type 0} where
   -- what the other lanes hold
@@ -221,3 +223,137 @@ module _ {L : Type 0} where
 
   pub took_there : (r : Option (Filed L)) (now : List (Filed L)) (lanes : List (List (Filed L))) (i : ℕ) (ys zs : List (Filed L)) → all lanes ≡ now → i < length lanes → IsLeader i lanes → ys ≡ get_or lanes i ys → IfSome r (λ x. Takes x ys zs) → IfSome r (λ x. Takes x now (all (set lanes i zs)))
   took_there r now lanes i ys zs v h l e t = IfSome_then r t (λ x u. subst (λ w. Takes x w (all (set lanes i zs))) v (takes_at x lanes i zs h l (subst (λ w. Takes x w zs) (is_row lanes i ys h e) u)))
+
+  -- ---- the lane that leads
+
+  -- a first of the leading lane is a first of all
+  pub leads_all : (o : Option (Filed L)) (lanes : List (List (Filed L))) (i : ℕ) → IsLeader i lanes → FirstOf o (row lanes i) → FirstOf o (all lanes)
+  leads_all o lanes i l f = at o l.best f l.there l.first
+    where
+      at : (o best : Option (Filed L)) → FirstOf o (row lanes i) → FirstOf best (row lanes i) → FirstOf best (all lanes) → FirstOf o (all lanes)
+      at None None f t g = g
+      at None (Some w) f t g = absurd (subst (In w) f t.is_there)
+      at (Some x) None f t g = absurd (subst (In x) t f.is_there)
+      at (Some x) (Some w) f t g = record {
+        is_there = in_permutation (all lanes) (row lanes i ++ others lanes i) x (one_out lanes i) (in_left x (row lanes i) (others lanes i) f.is_there);
+        first = upper x (all lanes) (λ z j. chain x w z (upper_at x w (row lanes i) f.first t.is_there) (upper_at w z (all lanes) g.first j));
+      }
+
+  row_past : (lanes : List (List (Filed L))) (i : ℕ) → length lanes ≤ i → row lanes i ≡ []
+  row_past [] i h = refl
+  row_past (xs ∷ more) zero h = absurd (omega arith)
+  row_past (xs ∷ more) (suc i) h = row_past more i (omega arith)
+
+  pub nobody_leads : (lanes : List (List (Filed L))) (i : ℕ) → IsLeader i lanes → length lanes ≤ i → all lanes ≡ []
+  nobody_leads lanes i l h = none_at lanes i l (row_past lanes i h)
+
+  -- where lanes hold the same at each place one leads as before
+  pub same_leader : (lanes new : List (List (Filed L))) (i : ℕ) → all new ≡ all lanes → ((k : ℕ) → row new k ≡ row lanes k) → IsLeader i lanes → IsLeader i new
+  same_leader lanes new i a r l = record { best = l.best; there = subst (FirstOf l.best) (sym (r i)) l.there; first = subst (FirstOf l.best) (sym a) l.first }
+
+  row_push : (lanes : List (List (Filed L))) (xs : List (Filed L)) (k : ℕ) → xs ≡ [] → row (lanes ++ xs ∷ []) k ≡ row lanes k
+  row_push [] xs zero e = e
+  row_push [] xs (suc k) e = refl
+  row_push (ys ∷ more) xs zero e = refl
+  row_push (ys ∷ more) xs (suc k) e = row_push more xs k e
+
+  pub rows_pushed : (lanes new : List (List (Filed L))) (xs : List (Filed L)) → new ≡ lanes ++ xs ∷ [] → xs ≡ [] → (k : ℕ) → row new k ≡ row lanes k
+  rows_pushed lanes new xs e n k = ap (λ w. row w k) e ∙ row_push lanes xs k n
+
+  row_set : (lanes : List (List (Filed L))) (i : ℕ) (ys : List (Filed L)) → i < length lanes → row (set lanes i ys) i ≡ ys
+  row_set [] i ys h = absurd (omega arith)
+  row_set (xs ∷ more) zero ys h = refl
+  row_set (xs ∷ more) (suc i) ys h = row_set more i ys (omega arith)
+
+  -- a row of lanes of which one was set is that one, or as it was
+  row_set_cases : (lanes : List (List (Filed L))) (i : ℕ) (ys : List (Filed L)) (k : ℕ) → i < length lanes → ((k ≡ i) × (row (set lanes i ys) k ≡ ys)) ⊎ (row (set lanes i ys) k ≡ row lanes k)
+  row_set_cases [] i ys k h = absurd (omega arith)
+  row_set_cases (xs ∷ more) zero ys zero h = inl (refl, refl)
+  row_set_cases (xs ∷ more) zero ys (suc k) h = inr refl
+  row_set_cases (xs ∷ more) (suc i) ys zero h = inr refl
+  row_set_cases (xs ∷ more) (suc i) ys (suc k) h = at (row_set_cases more i ys k (omega arith))
+    where
+      at : ((k ≡ i) × (row (set more i ys) k ≡ ys)) ⊎ (row (set more i ys) k ≡ row more k) → ((suc k ≡ suc i) × (row (set more i ys) k ≡ ys)) ⊎ (row (set more i ys) k ≡ row more k)
+      at (inl p) = inl (ap suc p.0, p.1)
+      at (inr p) = inr p
+
+  module _ (x : Filed L) (lanes : List (List (Filed L))) (leader place : ℕ) (ys : List (Filed L)) (h : place < length lanes) (l : IsLeader leader lanes) (p : IsPermutation (x ∷ row lanes place) ys) where
+    more : IsPermutation (x ∷ all lanes) (all (set lanes place ys))
+    more = puts_at x lanes place ys h p
+
+    -- what goes ahead of all is a first of all, and of its lane
+    goes_first : ((z : Filed L) → In z (all lanes) → is_before z x ≡ false) → IsLeader place (set lanes place ys)
+    goes_first f = record {
+      best = Some x;
+      there = subst (FirstOf (Some x)) (sym (row_set lanes place ys h)) (permuted (x ∷ row lanes place) ys p (heads x (row lanes place) (λ z i. f z (in_permutation (all lanes) (row lanes place ++ others lanes place) z (one_out lanes place) (in_left z (row lanes place) (others lanes place) i)))));
+      first = permuted (x ∷ all lanes) (all (set lanes place ys)) more (heads x (all lanes) f);
+    }
+      where
+        permuted : (xs zs : List (Filed L)) → IsPermutation xs zs → FirstOf (Some x) xs → FirstOf (Some x) zs
+        permuted xs zs q g = record { is_there = in_permutation zs xs x (IsPermutation-sym xs zs q) g.is_there; first = upper x zs (λ z i. upper_at x z xs g.first (in_permutation xs zs z q i)) }
+
+    -- else what led leads on
+    pub stays_first : (w : Filed L) → FirstOf (Some w) (row lanes leader) → is_before x w ≡ false → IsLeader leader (set lanes place ys)
+    stays_first w f b = record { best = Some w; there = at (row_set_cases lanes place ys leader h); first = behind (x ∷ all lanes) (all (set lanes place ys)) more (inr g.is_there) (λ z i. no_earlier (all lanes) g z i) }
+      where
+        g : FirstOf (Some w) (all lanes)
+        g = leads_all (Some w) lanes leader l f
+
+        no_earlier : (xs : List (Filed L)) → FirstOf (Some w) xs → (z : Filed L) → In z (x ∷ xs) → is_before z w ≡ false
+        no_earlier xs g z (inl e) = ap (λ v. is_before v w) e ∙ b
+        no_earlier xs g z (inr i) = upper_at w z xs g.first i
+
+        behind : (xs zs : List (Filed L)) → IsPermutation xs zs → In w xs → ((z : Filed L) → In z xs → is_before z w ≡ false) → FirstOf (Some w) zs
+        behind xs zs q i u = record { is_there = in_permutation zs xs w (IsPermutation-sym xs zs q) i; first = upper w zs (λ z j. u z (in_permutation xs zs z q j)) }
+
+        at : ((leader ≡ place) × (row (set lanes place ys) leader ≡ ys)) ⊎ (row (set lanes place ys) leader ≡ row lanes leader) → FirstOf (Some w) (row (set lanes place ys) leader)
+        at (inr e) = subst (FirstOf (Some w)) (sym e) f
+        at (inl e) =
+            let f2 : FirstOf (Some w) (row lanes place) = subst (λ k. FirstOf (Some w) (row lanes k)) e.0 f in
+            subst (FirstOf (Some w)) (sym e.1) (behind (x ∷ row lanes place) ys p (inr f2.is_there) (λ z i. no_earlier (row lanes place) f2 z i))
+
+    pub ahead_leads : (o : Option (Filed L)) → FirstOf o (all lanes) → goes_ahead x o ≡ true → IsLeader place (set lanes place ys)
+    ahead_leads None f b = goes_first (λ z i. absurd (subst (In z) f i))
+    ahead_leads (Some w) f b = goes_first (λ z i. chain x w z (asym x w b) (upper_at w z (all lanes) f.first i))
+
+  -- what a lane at a place tells of all
+  pub first_there : (o : Option (Filed L)) (now : List (Filed L)) (lanes : List (List (Filed L))) (i : ℕ) (ys : List (Filed L)) → all lanes ≡ now → i < length lanes → IsLeader i lanes → ys ≡ get_or lanes i ys → FirstOf o ys → FirstOf o now
+  first_there o now lanes i ys v h l e f = subst (FirstOf o) v (leads_all o lanes i l (subst (FirstOf o) (is_row lanes i ys h e) f))
+
+  pub none_there : (r : Option (Filed L)) (now : List (Filed L)) (lanes : List (List (Filed L))) (i : ℕ) (ys zs : List (Filed L)) → all lanes ≡ now → i < length lanes → IsLeader i lanes → ys ≡ get_or lanes i ys → IfNone r ((ys ≡ []) × (zs ≡ [])) → IfNone r ((now ≡ []) × (all (set lanes i zs) ≡ []))
+  none_there None now lanes i ys zs v h l e n =
+      let p = none_taken None lanes i zs l (sym (is_row lanes i ys h e) ∙ n.0, n.1) in
+      (sym v ∙ p.0, p.1)
+  none_there (Some x) now lanes i ys zs v h l e n = tt
+
+  -- what wasn't put in changes nothing
+  pub set_same : (lanes : List (List (Filed L))) (i : ℕ) (ys zs : List (Filed L)) → ys ≡ get_or lanes i ys → zs ≡ ys → set lanes i zs ≡ lanes
+  set_same lanes i ys zs e same = ap (λ w. set lanes i w) (same ∙ e) ∙ set-get_or lanes i ys
+
+  pub still_leads : (old lanes : List (List (Filed L))) (i leader : ℕ) (ys zs : List (Filed L)) → all lanes ≡ all old → ((k : ℕ) → row lanes k ≡ row old k) → IsLeader leader old → ys ≡ get_or lanes i ys → zs ≡ ys → IsLeader leader (set lanes i zs)
+  still_leads old lanes i leader ys zs a r l e same = subst (IsLeader leader) (sym (set_same lanes i ys zs e same)) (same_leader old lanes leader a r l)
+
+  pub still_all : (now : List (Filed L)) (old lanes : List (List (Filed L))) (i : ℕ) (ys zs : List (Filed L)) → all old ≡ now → all lanes ≡ all old → ys ≡ get_or lanes i ys → zs ≡ ys → all (set lanes i zs) ≡ now
+  still_all now old lanes i ys zs v a e same = ap all (set_same lanes i ys zs e same) ∙ a ∙ v
+
+  -- who leads once an event was put in
+  module _ (x : Filed L) (o : Option (Filed L)) (now : List (Filed L)) (old lanes : List (List (Filed L))) (leader place : ℕ) (ys zs : List (Filed L)) (v : all old ≡ now) (a : all lanes ≡ all old) (r : (k : ℕ) → row lanes k ≡ row old k) (h : place < length lanes) (l : IsLeader leader old) (e : ys ≡ get_or lanes place ys) (p : IsPermutation (x ∷ ys) zs) (f : FirstOf o now) (b : Bool) (t : b ≡ goes_ahead x o) where
+    led : IsLeader leader lanes
+    led = same_leader old lanes leader a r l
+
+    put_in : IsPermutation (x ∷ row lanes place) zs
+    put_in = subst (λ w. IsPermutation (x ∷ w) zs) (is_row lanes place ys h e) p
+
+    pub new_leader : b ≡ true → IsLeader place (set lanes place zs)
+    new_leader k = ahead_leads x lanes leader place zs h led put_in o (subst (FirstOf o) (sym (a ∙ v)) f) (sym t ∙ k)
+
+    pub old_leader : b ≡ false → IsLeader leader (set lanes place zs)
+    old_leader k = at o f (sym t ∙ k)
+      where
+        at : (o : Option (Filed L)) → FirstOf o now → goes_ahead x o ≡ false → IsLeader leader (set lanes place zs)
+        at None f q = absurd (false≢true (sym q))
+        at (Some w) f q = lead_on w (led).best (led).there (led).first (subst (FirstOf (Some w)) (sym (a ∙ v)) f) q
+          where
+            lead_on : (w : Filed L) (best : Option (Filed L)) → FirstOf best (row lanes leader) → FirstOf best (all lanes) → FirstOf (Some w) (all lanes) → is_before x w ≡ false → IsLeader leader (set lanes place zs)
+            lead_on w None u g f q = absurd (subst (In w) g f.is_there)
+            lead_on w (Some y) u g f q = stays_first x lanes leader place zs h led put_in y u (chain y w x (upper_at y w (all lanes) g.first f.is_there) q)

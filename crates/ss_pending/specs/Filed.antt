@@ -84,6 +84,11 @@ module _ {L : Type 0} where
   abbrev pub first_of : Option (Filed L) → Option (Filed L) → Option (Filed L)
   first_of x y = if leads x y then x else y
 
+  -- x goes ahead of the first
+  abbrev pub goes_ahead : Filed L → Option (Filed L) → Bool
+  goes_ahead x None = true
+  goes_ahead x (Some y) = is_before x y
+
   -- x is taken from old, of which it is a first, and new is left
   pub record Takes (x : Filed L) (old new : List (Filed L)) : Type 0 where
     pub left : IsPermutation old (x ∷ new)

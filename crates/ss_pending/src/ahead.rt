@@ -1,18 +1,18 @@
-//! Events of which the first is at hand.
+//! A lane of which the first event is at hand.
 
 ghost use Rattle.std.specs.Prelude.{◌≡◌, [], ◌∷◌, ◌++◌, OnOk, OnErr, IfSome, IfNone, option_copied, IsPermutation};
 ghost use Rattle.ss_pending.specs.Filed.{FirstOf, Takes};
 
 use crate::filed::Filed;
-use crate::road::Road;
+use crate::lane::Lane;
 use std::alloc::{AllocError, Global};
 use std::marker::Model;
 
-/// Events of which the first stands ahead of the lanes that hold the others.
+/// Events of one sort, mostly, of which the first stands ahead of the lane that holds the others.
 #[derive(Drop)]
 pub struct Ahead<L> {
     first: Option<Filed<L>>,
-    rest: Road<L>,
+    rest: Lane<L>,
 }
 
 impl<L> Model for Ahead<L> {
@@ -28,14 +28,19 @@ impl<L> Model for Ahead<L> {
 }
 
 impl<L> Ahead<L> {
-    /// No events. It takes no memory.
-    pub fn new(alloc: Global) -> Self
+    /// No events, of which a sort is to come. It takes no memory.
+    pub fn new(alloc: Global, sort: u64) -> Self
         ensures { result ≡ [] }
     {
         Ahead {
             first: None,
-            rest: Road::new(alloc),
+            rest: Lane::new(alloc, sort),
         }
+    }
+
+    /// Whether it was made for a sort of events.
+    pub fn is_for(&self, sort: u64) -> bool {
+        self.rest.is_for(sort)
     }
 
     /// The first event.
@@ -45,8 +50,8 @@ impl<L> Ahead<L> {
         self.first.as_ref()
     }
 
-    /// Puts in an event of a sort. It fails only where no memory is left, and then changes nothing.
-    pub fn put(&mut self, filed: Filed<L>, sort: u64) -> Result<(), AllocError>
+    /// Puts in an event. It fails only where no memory is left, and then changes nothing.
+    pub fn put(&mut self, filed: Filed<L>) -> Result<(), AllocError>
     where
         L: Copy + Drop,
         ensures ok { OnOk result (IsPermutation (filed ∷ self.old) self.new) }
@@ -59,11 +64,11 @@ impl<L> Ahead<L> {
             }
             Some(first) => {
                 if filed.is_before(&first) {
-                    self.rest.put(first, sort)?;
+                    self.rest.put(first)?;
                     self.first = Some(filed);
                     Ok(())
                 } else {
-                    self.rest.put(filed, sort)
+                    self.rest.put(filed)
                 }
             }
         }

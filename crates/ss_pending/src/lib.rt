@@ -2,19 +2,22 @@
 #![tactic(auto)]
 
 ghost use Rattle.std.specs.Prelude.{◌≡◌, ◌+◌, ◌<◌, [], ◌∷◌, ◌==◌, OnOk, OnErr, List, ℕ, false, length, IfSome, IfNone, IfOk, OnSome};
-ghost use Rattle.std.specs.BinaryHeap.{heap_items};
+ghost use Rattle.std.specs.BinaryHeap.{heap_items, IsHeap};
 ghost use Rattle.ss_model.specs.declared.Event.{Event};
 ghost use Rattle.ss_model.specs.Order.{insert, next_key, next_time, begins_before};
-ghost use Rattle.ss_pending.specs.Filed.{in_order, AllBelow, Different, FirstOf, Takes};
+ghost use Rattle.ss_pending.specs.Filed.{in_order, latest_first, AllBelow, Different, FirstOf, Takes};
+ghost use Rattle.ss_pending.specs.Loads.{all_loaded};
 
 mod ahead;
 mod filed;
 mod lane;
+mod loads;
 mod road;
 
-use ahead::Ahead;
 use filed::Filed;
 use lane::take_top;
+use loads::{Loads, look_up, store, unstore};
+use road::Road;
 use ss_model::{Event, Key};
 use std::alloc::{AllocError, Global};
 use std::collections::BinaryHeap;
@@ -23,7 +26,9 @@ use std::marker::Model;
 /// The events that are to come, in the order of their keys, and for one key in the order in which they were put in.
 #[derive(Drop)]
 pub struct Pending<L> {
-    queue: Ahead<L>,
+    // The events, each with the place of its load, and the loads.
+    queue: Road<u32>,
+    loads: Loads<L>,
     // The time of the event that was taken last.
     last: u64,
     // The number of the next event that is put in.
@@ -35,12 +40,13 @@ impl<L> Model for Pending<L> {
     ghost use Rattle.std.specs.Prelude.{List};
     ghost use Rattle.ss_model.specs.declared.Event.{Event};
     ghost use Rattle.ss_pending.specs.Filed.{in_order, AllBelow, Different};
+    ghost use Rattle.ss_pending.specs.Loads.{all_loaded, Kept};
 
     ghost Value = { List (Event L) };
 
-    ghost view = { λ p. in_order p.queue };
+    ghost view = { λ p. all_loaded p.loads.loads (in_order p.queue) };
 
-    ghost invariant = { λ p. Different p.queue × AllBelow p.next p.queue };
+    ghost invariant = { λ p. Different p.queue × AllBelow p.next p.queue × Kept (in_order p.queue) p.loads };
 }
 
 // The sort of an event: its class, and how long it is until it comes. Clocks and lines have fixed periods and latencies,
@@ -53,7 +59,7 @@ fn sort_of(key: Key, last: u64) -> u64 {
 }
 
 // The key of the first event.
-fn first_key<L>(queue: &Ahead<L>) -> Option<Key>
+fn first_key<L>(queue: &Road<L>) -> Option<Key>
     requires { Different queue.now }
     ensures { result ≡ next_key (in_order queue.now) }
 {
@@ -64,7 +70,7 @@ fn first_key<L>(queue: &Ahead<L>) -> Option<Key>
 }
 
 // Puts in an event whose number is above all others.
-fn put<L: Copy + Drop>(queue: &mut Ahead<L>, filed: Filed<L>, sort: u64) -> Result<(), AllocError>
+fn put<L: Copy + Drop>(queue: &mut Road<L>, filed: Filed<L>, sort: u64) -> Result<(), AllocError>
     requires different { Different queue.old }
     requires below { AllBelow filed.number queue.old }
     ensures ok { OnOk result (in_order queue.new ≡ insert filed.event (in_order queue.old)) }
@@ -76,7 +82,7 @@ fn put<L: Copy + Drop>(queue: &mut Ahead<L>, filed: Filed<L>, sort: u64) -> Resu
 }
 
 // Takes the first event.
-fn take<L: Copy + Drop>(queue: &mut Ahead<L>) -> Option<Filed<L>>
+fn take<L: Copy + Drop>(queue: &mut Road<L>) -> Option<Filed<L>>
     requires { Different queue.old }
     ensures some { IfSome result (λ f. in_order queue.old ≡ f.event ∷ in_order queue.new) }
     ensures none { IfNone result (in_order queue.old ≡ []) }
@@ -86,13 +92,34 @@ fn take<L: Copy + Drop>(queue: &mut Ahead<L>) -> Option<Filed<L>>
     queue.take()
 }
 
+// The events of a heap, in order, each with its load.
+fn in_turn<L: Copy + Drop>(
+    alloc: Global,
+    loads: &Loads<L>,
+    heap: BinaryHeap<Filed<u32>>,
+) -> Result<Vec<Event<L>>, AllocError>
+    requires heap { IsHeap latest_first (heap_items heap) }
+    requires different { Different (heap_items heap) }
+    ensures { IfOk result (λ v. v.items ≡ all_loaded loads.now.loads (in_order (heap_items heap))) }
+{
+    let mut heap = heap;
+    let mut list = Vec::with_capacity(alloc, heap.len())?;
+    while let Some(first) = take_top(&mut heap) {
+        let key = first.event.key;
+        let load = look_up(loads, first.event.load);
+        list.push(Event { key, load })?;
+    }
+    Ok(list)
+}
+
 impl<L> Pending<L> {
     /// No events. It takes no memory.
     pub fn new(alloc: Global) -> Self
         ensures { result ≡ [] }
     {
         Pending {
-            queue: Ahead::new(alloc),
+            queue: Road::new(alloc),
+            loads: Loads::new(alloc),
             last: 0,
             next: 0,
             alloc,
@@ -116,8 +143,8 @@ impl<L> Pending<L> {
         }
     }
 
-    /// Puts in an event, behind those with its key. It fails only where no memory is left, or where 2^64 - 1 events were
-    /// put in before it, and then changes nothing.
+    /// Puts in an event, behind those with its key. It fails only where no memory is left, where 2^64 - 1 events were put
+    /// in before it, or where 2^32 - 1 events with a load stand already, and then changes nothing.
     pub fn insert(&mut self, event: Event<L>) -> Result<(), AllocError>
     where
         L: Copy + Drop,
@@ -129,9 +156,19 @@ impl<L> Pending<L> {
             return Err(AllocError);
         };
         let sort = sort_of(event.key, self.last);
-        put(&mut self.queue, Filed { event, number }, sort)?;
-        self.next = next;
-        Ok(())
+        let load = store(&mut self.loads, event.load)?;
+        let key = event.key;
+        let event = Event { key, load };
+        match put(&mut self.queue, Filed { event, number }, sort) {
+            Ok(()) => {
+                self.next = next;
+                Ok(())
+            }
+            Err(error) => {
+                unstore(&mut self.loads, load);
+                Err(error)
+            }
+        }
     }
 
     /// Takes the first event, if it comes before a time in picoseconds. It takes no memory.
@@ -144,8 +181,10 @@ impl<L> Pending<L> {
         match first_key(&self.queue) {
             Some(key) if key.time < time => match take(&mut self.queue) {
                 Some(first) => {
-                    self.last = first.event.key.time;
-                    Some(first.event)
+                    let key = first.event.key;
+                    self.last = key.time;
+                    let load = unstore(&mut self.loads, first.event.load);
+                    Some(Event { key, load })
                 }
                 None => None,
             },
@@ -161,12 +200,7 @@ impl<L> Pending<L> {
     {
         let mut copy = Vec::new(self.alloc);
         self.queue.copy_to(&mut copy)?;
-        let mut heap = BinaryHeap::from(copy);
-        let mut list = Vec::with_capacity(self.alloc, heap.len())?;
-        while let Some(first) = take_top(&mut heap) {
-            list.push(first.event)?;
-        }
-        Ok(list)
+        in_turn(self.alloc, &self.loads, BinaryHeap::from(copy))
     }
 }
 

@@ -1,0 +1,23 @@
+use Rattle.std.proofs.Common.{ap, sym, subst, ◌∙◌, rules}
+use Rattle.ss_model.specs.Order.{insert}
+use Rattle.ss_pending.specs.Filed.{in_order}
+use Rattle.ss_pending.specs.Loads.{Kept, all_loaded, freed}
+use Rattle.ss_pending.proofs.Stored.{stored_kept, stored_list, back_list}
+use Rattle.ss_pending.proofs.Pending.insert.Goals as goal
+
+pub invariant_of-self-in-Ok : goal.invariant_of-self-in-Ok
+invariant_of-self-in-Ok g c =
+    (c.in-Ok.ensures.different, search rules, subst (λ es. Kept es c.store.new.loads) (sym c.in-Ok.ensures.ok) (stored_kept c.args.event.key (in_order c.self.inside.queue) c.self.inside.loads c.store.new.loads c.self.invariant.2 c.in_ok-load.load c.args.event.load c.in_ok-load.ensures.ok))
+
+pub returns-in-Ok-clause-ok : goal.returns-in-Ok-clause-ok
+returns-in-Ok-clause-ok g c =
+    ap (all_loaded c.store.new.loads.loads) c.in-Ok.ensures.ok
+    ∙ stored_list c.args.event.key (in_order c.self.inside.queue) c.self.inside.loads c.store.new.loads c.self.invariant.2 c.in_ok-load.load c.args.event.load c.in_ok-load.ensures.ok
+    ∙ ap (insert c.args.event) c.self.view_is
+
+pub returns-in-Err-clause-err : goal.returns-in-Err-clause-err
+returns-in-Err-clause-err g c =
+    ap (λ s. all_loaded s.loads (in_order c.put.new.queue)) c.unstore.ensures.left
+    ∙ ap (λ q. all_loaded (freed c.in_ok-load.load c.store.new.loads).loads (in_order q)) c.in-Err.ensures.err
+    ∙ back_list c.args.event.key (in_order c.self.inside.queue) c.self.inside.loads c.store.new.loads c.self.invariant.2 c.in_ok-load.load c.args.event.load c.in_ok-load.ensures.ok
+    ∙ c.self.view_is
