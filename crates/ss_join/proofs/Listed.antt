@@ -302,7 +302,9 @@ module _ {S L : Type 0} (kind : Kind S L) (Safe : Wiring → ℕ → State S L �
               (subst (λ n. Ready V SafeIn n (after V l.steps x.whole).state (after V l.steps x.whole).pending) (sym t) ready);
         }
 
-  pub last_is : (start_of m r).last ≤ r.cuts.origin → (k : ℕ) → HasWindows kind m r k → (greatest : ℕ) → IsGreatestLast kind m r k r.partition.parts greatest → greatest ≡ (ended (behaviour kind) (wires_of m r) (start_of m r) o).last
-  last_is early k w greatest x =
+  pub last_is : (k : ℕ) → HasWindows kind m r k → (greatest : ℕ) → IsGreatestLast kind m r k r.partition.parts greatest → greatest ≡ (ended (behaviour kind) (wires_of m r) (start_of m r) o).last
+  last_is k w greatest x =
+      let opens = laws r.graph r.origin f.accepted in
+      let early : (start_of m r).last ≤ r.cuts.origin = subst (λ t. (start_of m r).last ≤ t) (sym f.origin) opens.past in
       let i = lasts early k w.last w.opened w.first x.lasts x.are in
       x.is ∙ i.is ∙ ap (λ n. last V n G (start_of m r).last) (all_steps k i.steps w.last w.opened i.below i.whole w) ∙ sym (last_same kind.handled (wires_of m r) (division r).part_of o.steps (start_of m r))

@@ -19,7 +19,7 @@ use ss_run::Simulated;
 use ss_worker::Worker;
 use std::alloc::Global;
 use std::thread::Threads;
-use window::{advance, begins_in_time, ending, is_left};
+use window::{advance, ending, is_left};
 
 /// How a run ended: the time that its final line tells, in picoseconds, and how many windows it had.
 #[derive(Clone, Copy, Debug, PartialEq, Eq)]
@@ -54,10 +54,6 @@ where
     ensures kept { D.faults lead.old ≤ D.faults lead.new }
     ensures limit { D.limit lead.new ≡ limit_after result }
 {
-    // No run begins before its last event. The last times of the parts would not tell that of the one list then.
-    if !begins_in_time(workers) {
-        return Err(LeadFault::NoMemory);
-    }
     while is_left(workers) {
         let Ok(cut) = advance(rt, alloc, workers, hosts) else {
             return Err(LeadFault::NoMemory);

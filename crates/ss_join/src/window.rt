@@ -119,17 +119,6 @@ pub fn is_left<E: Simulated>(workers: &Vec<Worker<E>>) -> bool
     }
 }
 
-/// Whether the last event before a run's beginning was no later than that, as it is wherever a run begins.
-pub fn begins_in_time<E: Simulated>(workers: &Vec<Worker<E>>) -> bool
-    ghost at: { Point }
-    requires some { 1 ≤ at.run.partition.parts }
-    requires stand { AllStandAt at.run 0 workers.now.items }
-    ensures { result ≡ true → (start_of E.meaning at.run).last ≤ at.run.cuts.origin }
-{
-    let worker = &workers[0];
-    worker.last() <= worker.run().cuts.origin
-}
-
 // The greatest time of a part's last event.
 fn greatest_last<E: Simulated>(workers: &Vec<Worker<E>>) -> u64
     ghost at: { Point }
@@ -147,7 +136,6 @@ fn greatest_last<E: Simulated>(workers: &Vec<Worker<E>>) -> u64
 fn final_time<E: Simulated>(workers: &Vec<Worker<E>>) -> u64
     ghost at: { Point }
     requires fits { IsFitting E.kind E.meaning at.run }
-    requires early { (start_of E.meaning at.run).last ≤ at.run.cuts.origin }
     requires stand { AllStandAt at.run at.windows workers.now.items }
     requires over { HasWindows E.kind E.meaning at.run at.windows }
     ensures { (o : _) → IsOutcome E.kind E.meaning at.run o → result ≡ told_time o (ended (behaviour E.kind) (wires_of E.meaning at.run) (start_of E.meaning at.run) o) }
@@ -162,7 +150,6 @@ fn final_time<E: Simulated>(workers: &Vec<Worker<E>>) -> u64
 pub fn ending<E: Simulated>(workers: &Vec<Worker<E>>) -> Ending
     ghost at: { Point }
     requires fits { IsFitting E.kind E.meaning at.run }
-    requires early { (start_of E.meaning at.run).last ≤ at.run.cuts.origin }
     requires stand { AllStandAt at.run at.windows workers.now.items }
     requires over { HasWindows E.kind E.meaning at.run at.windows }
     ensures windows { result.windows ≡ at.windows }

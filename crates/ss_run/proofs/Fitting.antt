@@ -18,6 +18,7 @@ use Rattle.ss_window.specs.Cuts.{IsSpan, SpanFits}
 use Rattle.ss_part.specs.Cut.{cut, crosses}
 use Rattle.ss_part.proofs.Crossing.{cut_attained, cut_most, cut_at}
 use Rattle.ss_parts.specs.Parts.{IsAhead}
+use Rattle.ss_run.specs.declared.Origin.{Origin}
 use Rattle.ss_run.specs.Meaning.{Meaning, MeaningLaws, IsOpeningOf, IsLineOf, Opening}
 use Rattle.ss_run.specs.Run.{begins, FittingRuns}
 
@@ -53,8 +54,8 @@ crossing g list n l is h =
     let k : slice_index list (line_ends g n).1 ≡ slice_index list (line_ends g n).0 → ⊥ = λ e. h (ap (slice_index list) is.receiver ∙ e ∙ ap (slice_index list) (sym is.sender)) in
     apart (slice_index list (line_ends g n).0) (slice_index list (line_ends g n).1) k
 
-ahead : {S L : Type 0} (Safe : Wiring → ℕ → State S L → Type 0) (g : Graph) (list : List ℕ) (o : Opening S L) → IsOpeningOf Safe g o → IsAhead o.wires (slice_index list) (cut g list)
-ahead Safe g list o is n l e h =
+ahead : {S L : Type 0} (Safe : Wiring → ℕ → State S L → Type 0) (g : Graph) (list : List ℕ) (from : Origin) (o : Opening S L) → IsOpeningOf Safe g from o → IsAhead o.wires (slice_index list) (cut g list)
+ahead Safe g list from o is n l e h =
     let line = is.lines n l e in
     let c = cut_at g list n line.within (crossing g list n l line h) in
     omega (arith, c, line.latency)
@@ -78,7 +79,7 @@ pub fitting_runs : {S L : Type 0} (kind : Kind S L) (Safe : Wiring → ℕ → S
 fitting_runs kind Safe m laws r f =
     let o = laws r.graph r.origin f.accepted in
     record {
-      ahead = ahead Safe r.graph r.partition.list (begins m r) o;
+      ahead = ahead Safe r.graph r.partition.list r.origin (begins m r) o;
       look = look_span r.graph r.partition.list o.fit;
       within = λ c. below r.partition.list r.partition.parts c f.below.below f.some;
       cuts = record {

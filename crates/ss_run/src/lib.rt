@@ -12,6 +12,7 @@ mod tests;
 use ss_element::Element;
 use ss_graph::Graph;
 use ss_part::Partition;
+use ss_units::Items;
 use ss_window::Cuts;
 use std::sync::Arc;
 
@@ -20,6 +21,8 @@ use std::sync::Arc;
 pub enum Origin {
     /// The start of the simulation, at time 0.
     Start,
+    /// The state that the bytes of a checkpoint spell, at its time.
+    Saved { bytes: Items<u8> },
 }
 
 /// A run that is divided into parts. It may be shared by threads.
@@ -41,7 +44,7 @@ pub trait Simulated: Element {
     /// Which graphs stand for a run of such elements, from what they begin with, and how that run begins.
     ghost meaning: { Meaning Self Self.Load };
 
-    /// What is accepted begins in a safe state, with the graph's lines as wires.
+    /// What is accepted begins in a safe state, no earlier than the last event before it, with the graph's lines as wires.
     ghost opens: { MeaningLaws Self.safe meaning };
 }
 

@@ -7,14 +7,6 @@ use Rattle.ss_join.specs.Joined.{Answers}
 use Rattle.ss_join.proofs.Going.{going_first, going_more, smaller, broken_now, broken_more, ends_now}
 use Rattle.ss_join.proofs.run_joined.Goals as goal
 
-pub returns-then-not-begins_in_time-clause-answers : goal.returns-then-not-begins_in_time-clause-answers
-returns-then-not-begins_in_time-clause-answers g c =
-    let kind = g.E.Element.kind in
-    let m = g.E.Simulated.meaning in
-    let old = g.D.Lead.seen c.args.lead.now in
-    broken_now kind g.E.Element.safe (g.met.E.Element g.world.𝓛 g.world.𝓜 g.world.𝓡 ((λ s x. x), (λ x. x), (λ x. x), λ x. x)).laws m (g.met.E.Simulated g.world.𝓛 g.world.𝓜 g.world.𝓡 ((λ s x. x), (λ x. x), (λ x. x), λ x. x)).opens g.run c.requires.1.1.1.1.1.1.1.1.0 c.args.workers.now.items old old
-    (going_first kind g.E.Element.safe (g.met.E.Element g.world.𝓛 g.world.𝓜 g.world.𝓡 ((λ s x. x), (λ x. x), (λ x. x), λ x. x)).laws m (g.met.E.Simulated g.world.𝓛 g.world.𝓜 g.world.𝓡 ((λ s x. x), (λ x. x), (λ x. x), λ x. x)).opens g.run c.requires.1.1.1.1.1.1.1.1.0 c.args.workers.now.items old c.requires.1.1.1.1.1.1.1.1.1.0 c.requires.1.1.1.1.1.1.1.1.1.1.1)
-
 pub loop-alloc-init : goal.loop-alloc-init
 loop-alloc-init g c = record {
   going = going_first g.E.Element.kind g.E.Element.safe (g.met.E.Element g.world.𝓛 g.world.𝓜 g.world.𝓡 ((λ s x. x), (λ x. x), (λ x. x), λ x. x)).laws g.E.Simulated.meaning (g.met.E.Simulated g.world.𝓛 g.world.𝓜 g.world.𝓡 ((λ s x. x), (λ x. x), (λ x. x), λ x. x)).opens g.run c.requires.1.1.1.1.1.1.1.1.0 c.args.workers.now.items (g.D.Lead.seen c.args.lead.now) c.requires.1.1.1.1.1.1.1.1.1.0 c.requires.1.1.1.1.1.1.1.1.1.1.1;

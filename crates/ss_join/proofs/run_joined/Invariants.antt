@@ -3,9 +3,6 @@ use Rattle.ss_join.specs.Between.{point_of}
 use Rattle.ss_join.proofs.Going.{Going}
 use Rattle.ss_join.proofs.run_joined.Given as goal
 
-abbrev pub ghost-begins_in_time : goal.ghost-begins_in_time
-ghost-begins_in_time g a = record { run = g.run; windows = 0 }
-
 abbrev pub ghost-is_left : goal.ghost-is_left
 ghost-is_left g a = point_of g.run a.workers.now.items
 
