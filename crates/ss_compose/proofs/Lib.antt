@@ -1,0 +1,4 @@
+pub mod Sorting
+pub mod Gathered
+pub mod Sizes
+pub mod Tables
