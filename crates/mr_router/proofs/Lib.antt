@@ -1,11 +1,2 @@
+pub mod Listing
 pub mod Ports
-pub mod Steps
-pub mod Judging
-pub mod Saved
-pub mod Balance
-pub mod Sound
-pub mod Kept
-pub mod Keeping
-pub mod Acting
-pub mod Alike
-pub mod Lawful

@@ -1,7 +1,7 @@
 -- What no handling changes of a router.
 use Rattle.std.specs.Prelude.{◌≡◌, ℕ, List, length, map}
 use Rattle.ss_tally.specs.Tally.{AlikeStats}
-use Rattle.mr_flow.specs.Side.{channels}
+use Rattle.mr_flow.specs.Saved.{Lane, lanes_of}
 use Rattle.mr_arb.specs.declared.turn.Turn.{Turn}
 use Rattle.mr_arb.specs.declared.turn.Turn.TheVariants as turn
 use Rattle.mr_router.specs.declared.port.Port.{Port}
@@ -10,16 +10,18 @@ use Rattle.mr_router.specs.Keeping.{Told}
 use Rattle.ss_model.specs.declared.Cause.{Cause}
 use Rattle.mr_flow.specs.declared.Load.{Load}
 
--- of a port: the most credits, the time of a flit, the capacities of its queues, and how many channels it has
+-- what the queues of a channel can hold
+abbrev pub sizes_of : Lane → ℕ × ℕ
+sizes_of l = (l.input.capacity, l.output.capacity)
+
+-- of a port: the most credits, the time of a flit, and what the queues of each channel can hold
 pub record PortSettings : Type 0 where
   pub most : ℕ
   pub flit_time : ℕ
-  pub inputs : List ℕ
-  pub outputs : List ℕ
-  pub count : ℕ
+  pub sizes : List (ℕ × ℕ)
 
 abbrev pub port_settings : Port → PortSettings
-port_settings p = record { most = p.most; flit_time = p.line.flit_time; inputs = map (λ q. q.capacity) p.line.inputs; outputs = map (λ q. q.capacity) p.line.outputs; count = channels p.line }
+port_settings p = record { most = p.most; flit_time = p.line.flit_time; sizes = map sizes_of (lanes_of p.line) }
 
 -- of a turn: its sort, and how many slots its list has
 abbrev pub turn_settings : Turn → ℕ × ℕ

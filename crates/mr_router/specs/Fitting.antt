@@ -13,6 +13,7 @@ use Rattle.mr_flow.specs.declared.Load.{Load}
 use Rattle.mr_flow.specs.declared.Load.TheVariants as load
 use Rattle.mr_flow.specs.Load.{is_of, row_fits}
 use Rattle.mr_flow.specs.Side.{IsWhole, channels, input, output, credits_at, is_idle}
+use Rattle.mr_flow.specs.Saved.{lanes_of}
 use Rattle.mr_topo.specs.Routes.{Delivers}
 use Rattle.mr_router.specs.Turns.{turn_fits}
 use Rattle.mr_router.specs.declared.settings.RouterSettings.{RouterSettings}
@@ -68,10 +69,14 @@ port_fits set at i p = nat_le p.line.line_free (at + 2 ^ 40) && (nat_le p.in_fre
 abbrev pub router_fits : Switch → ℕ → Bool
 router_fits x at = list_all (λ i. port_fits x.set at i (port_at x.ports i)) (range_with_len 0 (length x.ports)) && list_all (turn_fits x.slots) x.turns
 
+-- how many channels a port has
+abbrev pub lane_count : Port → ℕ
+lane_count p = length (lanes_of p.line)
+
 -- what may come to a port: a packet on a channel of its network, and a credit of no more flits than the other end's queue can hold
 abbrev pub comes : Switch → ℕ → ℕ → NetLoad → Bool
-comes x i at (net.Packet c p) = leads (peer_of x.set i) && (nat_lt c (channels (port_at x.ports i).line) && is_of (bounds_of x.set) (c / lanes x.set i) at p)
-comes x i at (net.Credit c flits) = nat_lt c (channels (port_at x.ports i).line) && (nat_le 1 flits && nat_le flits (port_at x.ports i).most)
+comes x i at (net.Packet c p) = leads (peer_of x.set i) && (nat_lt c (lane_count (port_at x.ports i)) && is_of (bounds_of x.set) (c / lanes x.set i) at p)
+comes x i at (net.Credit c flits) = nat_lt c (lane_count (port_at x.ports i)) && (nat_le 1 flits && nat_le flits (port_at x.ports i).most)
 
 abbrev pub load_comes : Switch → ℕ → ℕ → Load → Bool
 load_comes x i at (load.Core n) = false
@@ -85,8 +90,8 @@ cause_comes x (cause.Tick clock) at = true
 
 -- what goes out of a port
 abbrev pub Goes : Switch → ℕ → NetLoad → ℕ → Type 0
-Goes x i (net.Packet c p) at = (c < channels (port_at x.ports i).line) × (is_of (bounds_of x.set) (c / lanes x.set i) at p ≡ true)
-Goes x i (net.Credit c flits) at = (c < channels (port_at x.ports i).line) × (1 ≤ flits) × (flits ≤ x.set.input_flits)
+Goes x i (net.Packet c p) at = (c < lane_count (port_at x.ports i)) × (is_of (bounds_of x.set) (c / lanes x.set i) at p ≡ true)
+Goes x i (net.Credit c flits) at = (c < lane_count (port_at x.ports i)) × (1 ≤ flits) × (flits ≤ x.set.input_flits)
 
 abbrev pub LoadGoes : Switch → ℕ → Load → ℕ → Type 0
 LoadGoes x i (load.Core n) at = ⊥

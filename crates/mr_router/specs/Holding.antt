@@ -36,6 +36,12 @@ pub record IsPlaced (set : RouterSettings) (ports : ℕ) : Type 0 where
   pub some : 1 ≤ width set
   pub narrow : width set ≤ 16
 
+-- a router with as many ports as its topology has there
+pub record IsOfTopology (set : RouterSettings) (ports : ℕ) : Type 0 where
+  pub id : set.id < (routes set.topology).routers
+  pub count : ports ≡ (routes set.topology).ports set.id
+  pub few : ports ≤ 256
+
 -- what comes over a line comes to a port, and has room there
 abbrev pub HearsWell : Switch → Cause Load → Type 0
 HearsWell x cause.Start = Unit {0}

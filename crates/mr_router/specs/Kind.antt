@@ -5,10 +5,10 @@ use Rattle.ss_safe.specs.Laws.{Allowed}
 use Rattle.mr_flow.specs.declared.Load.{Load}
 use Rattle.mr_flow.specs.Load.{load_weight}
 use Rattle.mr_flow.specs.Queue.{flits_of}
-use Rattle.mr_flow.specs.Side.{channels, input, credits_at}
+use Rattle.mr_flow.specs.Side.{input, credits_at}
 use Rattle.mr_router.specs.Network.{leads}
 use Rattle.mr_router.specs.Router.{Switch, port_at, router_handled, router_ticks}
-use Rattle.mr_router.specs.Fitting.{peer_of, RouterHolds, router_fits, cause_comes, LoadGoes}
+use Rattle.mr_router.specs.Fitting.{peer_of, RouterHolds, router_fits, lane_count, cause_comes, LoadGoes}
 use Rattle.mr_router.specs.Keeping.{Told}
 use Rattle.mr_router.specs.Alike.{RouterAlike}
 
@@ -23,7 +23,7 @@ router_kind = record {
   begun = λ x. true;
   fits = router_fits;
   fits_load = cause_comes;
-  channels = λ x p. channels (port_at x.ports p).line;
+  channels = λ x p. lane_count (port_at x.ports p);
   flow = λ x p ch. record { credits = credits_at (port_at x.ports p).line ch; queued = flits_of (input (port_at x.ports p).line ch).packets; capacity = (input (port_at x.ports p).line ch).capacity };
   limit = λ x p ch. (port_at x.ports p).most;
   weight = load_weight;

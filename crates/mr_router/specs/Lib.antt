@@ -10,3 +10,5 @@ pub mod Saved
 pub mod Acting
 pub mod Alike
 pub mod Kind
+pub mod Kept
+pub mod Laws

@@ -7,8 +7,8 @@ use Rattle.ss_element.specs.Stored.{field}
 use Rattle.mr_arb.specs.declared.turn.Turn.{Turn}
 use Rattle.mr_arb.specs.declared.turn.Turn.TheVariants as turn
 use Rattle.mr_arb.specs.Arbitrating.{EachFits}
-use Rattle.mr_router.specs.declared.outputs.Listed.{Listed}
-use Rattle.mr_router.specs.declared.outputs.Listed.TheVariants as listed
+use Rattle.mr_router.specs.declared.listed.Listed.{Listed}
+use Rattle.mr_router.specs.declared.listed.Listed.TheVariants as listed
 use Rattle.mr_router.specs.declared.outputs.Choice.{Choice}
 use Rattle.mr_router.specs.declared.outputs.Choice.TheVariants as choice
 
@@ -27,10 +27,10 @@ pub record Chosen : Type 0 where
   pub turns : List Turn
   pub grants : List ℕ
 
--- an arbiter has the slots, and what isn't one's can't be one's
+-- an arbiter has the slots and turns that fit them, and what isn't one's can't be one's
 abbrev pub IsChoice : ℕ → Choice → Type 0
-IsChoice slots (choice.Ready arbiter) = (slots ≤ 4096) × (arbiter.slots ≡ slots)
-IsChoice slots (choice.Read turns) = (slots ≤ 4096) × (EachFits slots (map turn_read turns.items) → ⊥)
+IsChoice slots (choice.Ready arbiter) = (1 ≤ slots) × (slots ≤ 4096) × (arbiter.slots ≡ slots) × EachFits slots arbiter.turns
+IsChoice slots (choice.Read turns) = (1 ≤ slots) × (slots ≤ 4096) × (EachFits slots (map turn_read turns.items) → ⊥)
 
 -- a turn that an arbiter may have: round robin begins with one of the slots, and a list of slots holds each once
 abbrev pub holds_once : List ℕ → ℕ → Bool

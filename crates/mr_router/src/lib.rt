@@ -2,12 +2,15 @@
 #![tactic(auto)]
 
 mod crossbar;
+mod element;
 mod laws;
+mod listed;
 mod outputs;
 mod port;
 mod pumping;
 mod router;
 mod settings;
+mod state;
 mod topology;
 
 pub use laws::{
@@ -15,8 +18,9 @@ pub use laws::{
     a_router_keeps_its_settings, a_router_keeps_the_balance, a_router_keeps_the_laws_of_a_kind,
     a_router_that_fits_is_ready,
 };
+pub use listed::Listed;
 pub use mr_arb::ArbKind;
-pub use outputs::{Choice, Listed, Outputs};
+pub use outputs::{Choice, Outputs};
 pub use port::Port;
 pub use router::Router;
 pub use settings::RouterSettings;

@@ -26,22 +26,26 @@ use std::marker::Model;
 /// time per input and per output, and go on as credits allow.
 #[derive(Drop)]
 pub struct Router {
-    set: RouterSettings,
-    ports: Vec<Port>,
-    outputs: Outputs,
+    pub(crate) set: RouterSettings,
+    pub(crate) ports: Vec<Port>,
+    pub(crate) outputs: Outputs,
     // The statistics that its graph asked for, and the place of `sent` among them, if it is there.
-    stats: StatSet,
+    pub(crate) stats: StatSet,
     sent: Option<usize>,
     // What asks for outputs in a tick.
     requests: Vec<Request>,
 }
 
 impl Model for Router {
+    ghost use Rattle.std.specs.Prelude.{length};
     ghost use Rattle.mr_router.specs.Router.{Switch};
+    ghost use Rattle.mr_router.specs.Holding.{IsOfTopology};
 
     ghost Value = { Switch };
 
     ghost view = { λ r. record { set = r.set; ports = r.ports.items; slots = r.outputs.slots; turns = r.outputs.turns; stats = r.stats; sent = r.sent } };
+
+    ghost invariant = { λ r. IsOfTopology r.set (length r.ports.items) };
 }
 
 // Pumps each port, lets the crossbar move packets, and turns the clock off where all queues are empty.
@@ -197,7 +201,8 @@ impl Router {
         )
     }
 
-    pub(crate) fn handle(
+    /// Handles a cause.
+    pub(crate) fn react(
         &mut self,
         now: u64,
         cause: &Cause<Load>,

@@ -1,13 +1,14 @@
 //! What is fixed of a router when it is made.
 
 ghost use Rattle.std.specs.Prelude.{◌≡◌, ◌<◌, ◌*◌, ◌^◌};
-ghost use Rattle.mr_router.specs.Network.{routes};
+ghost use Rattle.std.specs.Prelude.{◌/◌, ◌≤◌};
+ghost use Rattle.mr_router.specs.Network.{routes, leads};
 ghost use Rattle.mr_router.specs.Router.{width};
-ghost use Rattle.mr_router.specs.Fitting.{lanes};
+ghost use Rattle.mr_router.specs.Fitting.{lanes, bounds_of, peer_of};
 
 use crate::topology::Topology;
 use mr_arb::ArbKind;
-use mr_flow::Peer;
+use mr_flow::{Bounds, Peer};
 
 /// What is fixed of a router when it is made. Times are in picoseconds, sizes in flits.
 #[derive(Drop)]
@@ -41,16 +42,58 @@ impl RouterSettings {
         u32::from(self.vns) * u32::from(self.topology.channels())
     }
 
+    // The packets of the network.
+    pub(crate) fn bounds(&self) -> Bounds
+        ensures { result ≡ bounds_of self.now }
+    {
+        Bounds {
+            endpoints: self.endpoints,
+            vns: self.vns,
+            least: self.least,
+        }
+    }
+
+    // Whether a port leads somewhere.
+    pub(crate) fn leads(&self, port: u16) -> bool
+        requires id { self.now.id < (routes self.now.topology).routers }
+        requires port { port < (routes self.now.topology).ports self.now.id }
+        ensures { result ≡ leads (peer_of self.now port) }
+    {
+        match self.topology.peer(self.id, port) {
+            Some(_) => true,
+            None => false,
+        }
+    }
+
+    // How many channels of a virtual network a port has.
+    #[tactic(auto, using(crate::specs::Kept::Sizes::some_lanes))]
+    fn lanes(&self, port: u16) -> u8
+        requires id { self.now.id < (routes self.now.topology).routers }
+        requires port { port < (routes self.now.topology).ports self.now.id }
+        ensures lanes { result ≡ lanes self.now port }
+        ensures some { 1 ≤ result }
+    {
+        match self.topology.peer(self.id, port) {
+            Some(Peer::Router { .. }) => self.topology.channels(),
+            Some(Peer::Host { .. }) | None => 1,
+        }
+    }
+
     // How many channels a port has.
     pub(crate) fn channels(&self, port: u16) -> u16
         requires id { self.now.id < (routes self.now.topology).routers }
         requires port { port < (routes self.now.topology).ports self.now.id }
         ensures { result ≡ self.now.vns * lanes self.now port }
     {
-        let lanes = match self.topology.peer(self.id, port) {
-            Some(Peer::Router { .. }) => u16::from(self.topology.channels()),
-            Some(Peer::Host { .. }) | None => 1,
-        };
-        u16::from(self.vns) * lanes
+        u16::from(self.vns) * u16::from(self.lanes(port))
+    }
+
+    // The virtual network of a port's channel.
+    pub(crate) fn network(&self, port: u16, channel: u8) -> u8
+        requires id { self.now.id < (routes self.now.topology).routers }
+        requires port { port < (routes self.now.topology).ports self.now.id }
+        ensures { result ≡ channel / lanes self.now port }
+    {
+        channel / self.lanes(port)
     }
 }

@@ -1,5 +1,5 @@
 use Rattle.mr_router.specs.Router.{port_asks}
-use Rattle.mr_router.proofs.Steps.{grown}
+use Rattle.mr_router.specs.Kept.Steps.{grown}
 use Rattle.mr_router.proofs.crossbar.ask_all.Goals as goal
 
 pub loop-input-preserved : goal.loop-input-preserved

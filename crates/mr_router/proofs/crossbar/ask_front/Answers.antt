@@ -4,7 +4,7 @@ use Rattle.mr_flow.specs.Side.{input}
 use Rattle.mr_router.specs.declared.port.Port.{Port}
 use Rattle.mr_router.specs.Router.{port_at}
 use Rattle.mr_router.specs.Holding.{IsBound}
-use Rattle.mr_router.proofs.Ports.{there_is, front_bound}
+use Rattle.mr_router.specs.Kept.Ports.{there_is, front_bound}
 use Rattle.mr_router.proofs.crossbar.ask_front.Goals as goal
 
 pub ask-requires-clause-bound : goal.ask-requires-clause-bound

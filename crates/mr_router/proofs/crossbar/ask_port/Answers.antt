@@ -1,7 +1,7 @@
 use Rattle.mr_flow.specs.Queue.{head}
 use Rattle.mr_flow.specs.Side.{input}
 use Rattle.mr_router.specs.Router.{port_at, asks_of}
-use Rattle.mr_router.proofs.Steps.{grown}
+use Rattle.mr_router.specs.Kept.Steps.{grown}
 use Rattle.mr_router.proofs.crossbar.ask_port.Goals as goal
 
 pub loop-channel-preserved : goal.loop-channel-preserved

@@ -1,7 +1,7 @@
 use Rattle.std.proofs.Common.{◌<◌, length, get_or, subst, sym, arith}
 use Rattle.mr_router.specs.Router.{all_crossed}
 use Rattle.mr_router.specs.Holding.{AllBound}
-use Rattle.mr_router.proofs.Steps.{crossed_bound, next_ports, next_acts, nth_self}
+use Rattle.mr_router.specs.Kept.Steps.{crossed_bound, next_ports, next_acts, nth_self}
 use Rattle.mr_router.proofs.crossbar.cross_all.Goals as goal
 
 pub loop-slot-preserved : goal.loop-slot-preserved

@@ -1,4 +1,4 @@
-use Rattle.mr_router.proofs.Acting.{router_acts}
+use Rattle.mr_router.specs.Kept.Acting.{router_acts}
 use Rattle.mr_router.proofs.laws.a_router_acts_within_bounds.Goals as goal
 
 pub returns : goal.returns

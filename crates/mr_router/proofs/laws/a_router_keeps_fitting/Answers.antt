@@ -1,4 +1,4 @@
-use Rattle.mr_router.proofs.Keeping.{router_keeps}
+use Rattle.mr_router.specs.Kept.Keeping.{router_keeps}
 use Rattle.mr_router.proofs.laws.a_router_keeps_fitting.Goals as goal
 
 pub returns : goal.returns

@@ -2,7 +2,7 @@ use Rattle.std.proofs.Common.{◌≡◌, ◌<◌, ◌++◌, length, ap, ◌∙�
 use Rattle.mr_flow.specs.Side.{sent}
 use Rattle.mr_router.specs.declared.port.Port.{Port}
 use Rattle.mr_router.specs.Router.{port_at, port_pumped, sends_of, counted}
-use Rattle.mr_router.proofs.Steps.{step_get, step_set, step_sent, step_counted, length-counted}
+use Rattle.mr_router.specs.Kept.Steps.{step_get, step_set, step_sent, step_counted, length-counted}
 use Rattle.mr_router.proofs.pumping.pump_all.Goals as goal
 
 pub loop-index-preserved : goal.loop-index-preserved

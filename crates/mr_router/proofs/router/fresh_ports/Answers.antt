@@ -1,5 +1,5 @@
 use Rattle.std.proofs.Common.{◌<◌, length, None, arith}
-use Rattle.mr_router.proofs.Steps.{fresh_more}
+use Rattle.mr_router.specs.Kept.Steps.{fresh_more}
 use Rattle.mr_router.proofs.router.fresh_ports.Goals as goal
 
 pub loop-index-preserved : goal.loop-index-preserved

@@ -4,8 +4,8 @@ use Rattle.mr_arb.specs.declared.Request.{Request}
 use Rattle.mr_router.specs.declared.port.Port.{Port}
 use Rattle.mr_router.specs.Router.{width, all_asks}
 use Rattle.mr_router.specs.Holding.{AllBound, AllWithin}
-use Rattle.mr_router.proofs.Ports.{pumped_bound, pumped_within}
-use Rattle.mr_router.proofs.Steps.{slots_within, inputs_within}
+use Rattle.mr_router.specs.Kept.Ports.{pumped_bound, pumped_within}
+use Rattle.mr_router.specs.Kept.Steps.{slots_within, inputs_within}
 use Rattle.mr_router.proofs.router.tick_all.Goals as goal
 
 pub ask_all-requires-clause-bound : goal.ask_all-requires-clause-bound

@@ -1,0 +1,13 @@
+pub mod Ports
+pub mod Steps
+pub mod Judging
+pub mod Saved
+pub mod Balance
+pub mod Sound
+pub mod Kept
+pub mod Keeping
+pub mod Acting
+pub mod Alike
+pub mod Lawful
+pub mod Sizes
+pub mod Saving
