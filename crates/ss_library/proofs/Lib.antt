@@ -1,8 +1,9 @@
 pub mod Values
-pub mod Restored
 pub mod Numbered
 pub mod Lines
 pub mod Ports
+pub mod Ties
 pub mod Naming
+pub mod Members
+pub mod Begun
 pub mod Opening
-pub mod Joined

@@ -1,6 +1,6 @@
 -- The lines of links.
-use Rattle.std.proofs.Common.{◌≡◌, ℕ, ◌+◌, ◌*◌, ◌/◌, ◌%◌, ◌≤◌, List, [], ◌∷◌, ◌++◌, length, Option, Some, None, refl, ap, ◌∙◌, arith, append_assoc}
-use Rattle.std.specs.Prelude.{slice_get}
+use Rattle.std.proofs.Common.{◌≡◌, ℕ, ◌+◌, ◌*◌, ◌/◌, ◌%◌, ◌≤◌, List, [], ◌∷◌, ◌++◌, length, Option, Some, None, refl, ap, ◌∙◌, subst, arith, append_assoc}
+use Rattle.std.specs.Prelude.{slice_get, codes}
 use Rattle.ss_graph.specs.declared.graph.Graph.{Graph}
 use Rattle.ss_graph.specs.declared.graph.Join.{Join}
 use Rattle.ss_graph.specs.Links.{line_latency}
@@ -12,7 +12,11 @@ use Rattle.ss_graph.specs.declared.graph.Part.{Part}
 use Rattle.ss_library.specs.declared.table.KindName.{KindName}
 use Rattle.ss_library.specs.declared.table.KindName.TheVariants as kind
 use Rattle.ss_library.specs.Tables.{kind_named}
-use Rattle.ss_library.specs.Make.{each_numbered, lines_of, inner_of, inner_by}
+use Rattle.ss_graph.specs.Checks.{first_fault, Fails}
+use Rattle.ss_graph.proofs.Judging.{passes, fails_front, fails_behind}
+use Rattle.ss_network.specs.declared.fault.MakeFault.{MakeFault}
+use Rattle.ss_network.specs.Faults.{is_memory}
+use Rattle.ss_library.specs.Make.{each_numbered, port_check, protocol_check, link_checks, lines_of, inner_of, inner_by}
 use Rattle.ss_library.proofs.Numbered.{numbered_length}
 
 pub onward : (g : Graph) (i : ℕ) (j : Join) → slice_get g.links i ≡ Some j → lat g (2 * i) ≡ line_latency g.components j.left j.right
@@ -41,6 +45,26 @@ inner_few i p = by_kind (kind_named p.kind)
     by_kind (Some kind.Pinger) = grind arith
     by_kind (Some kind.Echo) = grind arith
     by_kind (Some kind.Ticker) = grind arith
+    by_kind (Some kind.Router) = grind arith
+    by_kind (Some kind.TestNic) = grind arith
 
 pub wires_are : (w : Wiring) (ls : List LinkLine) (ys : List InnerLine) → w.links ≡ ls → w.inner ≡ ys → w ≡ record { links = ls; inner = ys }
 wires_are w ls ys e f = rw (← e, ← f) refl
+
+-- ---- the fault of a link
+
+pub link_fails_right : (e : MakeFault) (ps qs : List Part) (i : ℕ) (j : Join) → ps ≡ qs → first_fault (port_check ps i (codes "left") j.left ∷ []) ≡ None → Fails is_memory e (first_fault (port_check ps i (codes "right") j.right ∷ [])) → Fails is_memory e (first_fault (link_checks qs i j))
+unfolding link_checks
+link_fails_right e ps qs i j q a b =
+    let l = port_check ps i (codes "left") j.left in
+    let r = port_check ps i (codes "right") j.right in
+    let d = protocol_check ps i j in
+    subst (λ (k : List Part). Fails is_memory e (first_fault (link_checks k i j))) q (fails_behind is_memory e (l ∷ []) (r ∷ d ∷ []) a (fails_front is_memory e (r ∷ []) (d ∷ []) b))
+
+pub link_fails_protocol : (e : MakeFault) (ps qs : List Part) (i : ℕ) (j : Join) → ps ≡ qs → first_fault (port_check ps i (codes "left") j.left ∷ []) ≡ None → first_fault (port_check ps i (codes "right") j.right ∷ []) ≡ None → Fails is_memory e (first_fault (protocol_check ps i j ∷ [])) → Fails is_memory e (first_fault (link_checks qs i j))
+unfolding link_checks
+link_fails_protocol e ps qs i j q a b h =
+    let l = port_check ps i (codes "left") j.left in
+    let r = port_check ps i (codes "right") j.right in
+    let d = protocol_check ps i j in
+    subst (λ (k : List Part). Fails is_memory e (first_fault (link_checks k i j))) q (fails_behind is_memory e (l ∷ r ∷ []) (d ∷ []) (passes (l ∷ []) (r ∷ []) a b) h)

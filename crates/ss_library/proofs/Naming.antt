@@ -1,11 +1,10 @@
 -- What the elements of a graph name, its wires have.
-use Rattle.std.proofs.Common.{◌≡◌, ℕ, zero, suc, ◌+◌, Bool, true, false, ◌&&◌, cond, eqb, List, [], ◌∷◌, ◌++◌, length, map, Option, Some, None, is_some, refl, sym, ap, ◌∙◌, subst, arith}
+use Rattle.std.proofs.Common.{◌≡◌, ℕ, zero, suc, ◌+◌, Bool, true, false, ◌&&◌, cond, eqb, List, [], ◌∷◌, ◌++◌, map, Option, Some, None, is_some, refl, sym, ap, ◌∙◌, arith}
 use Rattle.std.specs.Prelude.{slice_get}
 use Rattle.std.proofs.lemmas.Bool.{eq-eqb}
 use Rattle.ss_model.specs.declared.InnerLine.{InnerLine}
 use Rattle.ss_model.specs.declared.InnerLine.TheVariants as inner
-use Rattle.ss_model.specs.Wiring.{Wiring, link_at, own_from, clock_from}
-use Rattle.ss_safe.specs.Safe.{HasNamed, AllNamed}
+use Rattle.ss_model.specs.Wiring.{link_at, own_from, clock_from}
 use Rattle.ss_safe.specs.Kept.Found.{some_same, none_some}
 use Rattle.ss_graph.specs.declared.graph.Graph.{Graph}
 use Rattle.ss_graph.specs.declared.graph.Part.{Part}
@@ -13,15 +12,14 @@ use Rattle.ss_graph.specs.Checks.{Check, first_fault, or_else}
 use Rattle.ss_graph.specs.Links.{is_taken}
 use Rattle.ss_graph.specs.Fit.{ends_of}
 use Rattle.ss_graph.proofs.Judging.{first_fault_append}
-use Rattle.ss_library.specs.declared.fault.MakeFault.{MakeFault}
+use Rattle.ss_network.specs.declared.fault.MakeFault.{MakeFault}
 use Rattle.ss_library.specs.declared.table.KindName.{KindName}
 use Rattle.ss_library.specs.declared.table.KindName.TheVariants as kind
-use Rattle.ss_library.specs.declared.table.PortName.TheVariants as port
-use Rattle.ss_library.specs.declared.kinds.Any.{Any}
-use Rattle.ss_library.specs.Kinds.{any_kind, any_allowed}
-use Rattle.ss_library.specs.Tables.{kind_named, the_port, port_text}
-use Rattle.ss_library.specs.Make.{each_numbered, kind_checks, stats_checks, component_checks, components_checks, ports_of, links_checks, linked_check, ports_checks, all_ports_checks, inner_by, inner_of, element_by, element_of, wiring_of, joined, joined_from, model_of}
-use Rattle.ss_library.proofs.Ports.{linked_is}
+use Rattle.ss_kinds.specs.declared.names.PortName.TheVariants as port
+use Rattle.ss_kinds.specs.Names.{port_text}
+use Rattle.ss_library.specs.Tables.{kind_named, the_port}
+use Rattle.ss_library.specs.Make.{each_numbered, ports_of, links_checks, linked_check, ports_by, ports_checks, all_ports_checks, inner_by, inner_of, wiring_of}
+use Rattle.ss_library.proofs.Ports.{rows_named, linked_is}
 
 -- ---- checks by their places
 
@@ -33,7 +31,7 @@ pub no_fault : (o p : Option MakeFault) → or_else o p ≡ None → (o ≡ None
 no_fault None p h = (refl, h)
 no_fault (Some f) p h = absurd (cc)
 
-checked : {X : Type 0} (f : ℕ → X → List (Check MakeFault)) (n c d : ℕ) (xs : List X) (x : X) → c ≡ n + d → first_fault (each_numbered f n xs) ≡ None → slice_get xs d ≡ Some x → first_fault (f c x) ≡ None
+pub checked : {X : Type 0} (f : ℕ → X → List (Check MakeFault)) (n c d : ℕ) (xs : List X) (x : X) → c ≡ n + d → first_fault (each_numbered f n xs) ≡ None → slice_get xs d ≡ Some x → first_fault (f c x) ≡ None
 unfolding each_numbered
 checked f n c d [] x e h g = absurd (none_some g)
 checked f n c zero (y ∷ xs) x e h g =
@@ -70,78 +68,49 @@ own_by m n c p None more e k = absurd (none_some k)
 own_by m n c p (Some kind.Pinger) more e k = absurd (let s = some_same k in cc)
 own_by m n c p (Some kind.Echo) more e k = some_here (eqb n c) (eqb 0 0) m (own_from (m + 1) more c 0) (eq-eqb n c (sym e)) refl
 own_by m n c p (Some kind.Ticker) more e k = absurd (let s = some_same k in cc)
+own_by m n c p (Some kind.Router) more e k = absurd (let s = some_same k in cc)
+own_by m n c p (Some kind.TestNic) more e k = absurd (let s = some_same k in cc)
 
-clock_by : (m n c : ℕ) (p : Part) (o : Option KindName) (more : List InnerLine) → c ≡ n → o ≡ Some kind.Ticker → is_some (clock_from m (inner_by n p o ++ more) c 0) ≡ true
-clock_by m n c p None more e k = absurd (none_some k)
-clock_by m n c p (Some kind.Pinger) more e k = absurd (let s = some_same k in cc)
-clock_by m n c p (Some kind.Echo) more e k = absurd (let s = some_same k in cc)
+-- which kinds have a clock
+abbrev pub is_clocked : Option KindName → Bool
+is_clocked None = false
+is_clocked (Some kind.Pinger) = false
+is_clocked (Some kind.Echo) = false
+is_clocked (Some kind.Ticker) = true
+is_clocked (Some kind.Router) = true
+is_clocked (Some kind.TestNic) = true
+
+clock_by : (m n c : ℕ) (p : Part) (o : Option KindName) (more : List InnerLine) → c ≡ n → is_clocked o ≡ true → is_some (clock_from m (inner_by n p o ++ more) c 0) ≡ true
+clock_by m n c p None more e k = absurd cc
+clock_by m n c p (Some kind.Pinger) more e k = absurd cc
+clock_by m n c p (Some kind.Echo) more e k = absurd cc
 clock_by m n c p (Some kind.Ticker) more e k = some_here (eqb n c) (eqb 0 0) (m, _) (clock_from (m + 1) more c 0) (eq-eqb n c (sym e)) refl
+clock_by m n c p (Some kind.Router) more e k = some_here (eqb n c) (eqb 0 0) (m, _) (clock_from (m + 1) more c 0) (eq-eqb n c (sym e)) refl
+clock_by m n c p (Some kind.TestNic) more e k = some_here (eqb n c) (eqb 0 0) (m, _) (clock_from (m + 1) more c 0) (eq-eqb n c (sym e)) refl
 
-own_there : (m n c d : ℕ) (ps : List Part) (p : Part) → c ≡ n + d → slice_get ps d ≡ Some p → kind_named p.kind ≡ Some kind.Echo → is_some (own_from m (each_numbered inner_of n ps) c 0) ≡ true
+pub own_there : (m n c d : ℕ) (ps : List Part) (p : Part) → c ≡ n + d → slice_get ps d ≡ Some p → kind_named p.kind ≡ Some kind.Echo → is_some (own_from m (each_numbered inner_of n ps) c 0) ≡ true
 unfolding each_numbered
 own_there m n c d [] p e g k = absurd (none_some g)
 own_there m n c zero (q ∷ ps) p e g k = own_by m n c q (kind_named q.kind) (each_numbered inner_of (n + 1) ps) (omega arith) (ap (λ z. kind_named z.kind) (some_same g) ∙ k)
 own_there m n c (suc d) (q ∷ ps) p e g k = own_behind m c 0 (inner_of n q) (each_numbered inner_of (n + 1) ps) (λ l. own_there l (n + 1) c d ps p (omega arith) g k)
 
-clock_there : (m n c d : ℕ) (ps : List Part) (p : Part) → c ≡ n + d → slice_get ps d ≡ Some p → kind_named p.kind ≡ Some kind.Ticker → is_some (clock_from m (each_numbered inner_of n ps) c 0) ≡ true
+pub clock_there : (m n c d : ℕ) (ps : List Part) (p : Part) → c ≡ n + d → slice_get ps d ≡ Some p → is_clocked (kind_named p.kind) ≡ true → is_some (clock_from m (each_numbered inner_of n ps) c 0) ≡ true
 unfolding each_numbered
 clock_there m n c d [] p e g k = absurd (none_some g)
-clock_there m n c zero (q ∷ ps) p e g k = clock_by m n c q (kind_named q.kind) (each_numbered inner_of (n + 1) ps) (omega arith) (ap (λ z. kind_named z.kind) (some_same g) ∙ k)
+clock_there m n c zero (q ∷ ps) p e g k = clock_by m n c q (kind_named q.kind) (each_numbered inner_of (n + 1) ps) (omega arith) (ap (λ z. is_clocked (kind_named z.kind)) (some_same g) ∙ k)
 clock_there m n c (suc d) (q ∷ ps) p e g k = clock_behind m c 0 (inner_of n q) (each_numbered inner_of (n + 1) ps) (λ l. clock_there l (n + 1) c d ps p (omega arith) g k)
 
--- ---- the elements
+-- ---- a required port
 
-record IsJoined (w : Wiring) (c d : ℕ) (ps : List Part) (x : Any) : Type 0 where
-  part : Part
-  there : slice_get ps d ≡ Some part
-  is : joined w c (element_of part) ≡ x
+module _ (g : Graph) (links : first_fault (links_checks g.components g.links) ≡ None) (ports : first_fault (all_ports_checks (ends_of g.links) g.components) ≡ None) (c : ℕ) (p : Part) (there : slice_get g.components c ≡ Some p) where
+  -- the first port, where it is required
+  taken : (o : Option KindName) → kind_named p.kind ≡ o → ports_by (ends_of g.links) c o ≡ map (linked_check (ends_of g.links) c) (the_port ∷ []) → is_taken (ends_of g.links) (c, port_text port.Port) ≡ true
+  unfolding all_ports_checks ports_checks first_fault
+  taken o k is =
+      let all = checked (ports_checks (ends_of g.links)) 0 c c g.components p (omega arith) ports there in
+      let rows : first_fault (map (linked_check (ends_of g.links) c) (the_port ∷ [])) ≡ None = ap (λ cs. first_fault cs) (sym (ap (ports_by (ends_of g.links) c) k ∙ is)) ∙ all in
+      holds_by (is_taken (ends_of g.links) (c, port_text port.Port)) _ _ rows
 
-joined_at : (w : Wiring) (n c d : ℕ) (ps : List Part) (x : Any) → c ≡ n + d → slice_get (joined_from w n (map element_of ps)) d ≡ Some x → IsJoined w c d ps x
-unfolding joined_from
-joined_at w n c d [] x e g = absurd (none_some g)
-joined_at w n c zero (p ∷ ps) x e g = record { part = p; there = refl; is = ap (λ m. joined w m (element_of p)) {x = c} {y = n} (omega arith) ∙ some_same g }
-joined_at w n c (suc d) (p ∷ ps) x e g = let f = joined_at w (n + 1) c d ps x (omega arith) g in record { part = f.part; there = f.there; is = f.is }
-
-module _ (g : Graph) (components : first_fault (components_checks g.components) ≡ None) (links : first_fault (links_checks g.components g.links) ≡ None) (ports : first_fault (all_ports_checks (ends_of g.links) g.components) ≡ None) where
-  module _ (c : ℕ) (p : Part) (there : slice_get g.components c ≡ Some p) where
-    has_kind : is_some (kind_named p.kind) ≡ true
-    unfolding components_checks component_checks kind_checks first_fault
-    has_kind =
-        let all = checked component_checks 0 c c g.components p (omega arith) components there in
-        let own = no_fault (first_fault (kind_checks c p)) (first_fault (stats_checks c p)) (sym (first_fault_append (kind_checks c p) (stats_checks c p)) ∙ all) in
-        holds_by (is_some (kind_named p.kind)) _ _ own.0
-
-    -- the first port, where it is required
-    taken : (o : Option KindName) → kind_named p.kind ≡ o → ports_of o ≡ the_port ∷ [] → is_taken (ends_of g.links) (c, port_text port.Port) ≡ true
-    unfolding all_ports_checks ports_checks first_fault
-    taken o k is =
-        let all = checked (ports_checks (ends_of g.links)) 0 c c g.components p (omega arith) ports there in
-        let rows : first_fault (map (linked_check (ends_of g.links) c) (the_port ∷ [])) ≡ None = subst (λ rs. first_fault (map (linked_check (ends_of g.links) c) rs) ≡ None) (ap ports_of k ∙ is) all in
-        holds_by (is_taken (ends_of g.links) (c, port_text port.Port)) _ _ rows
-
-    leads : (o : Option KindName) → kind_named p.kind ≡ o → ports_of o ≡ the_port ∷ [] → is_some (link_at (wiring_of g) c 0) ≡ true
-    unfolding links_checks
-    leads o k is = linked_is g.components p the_port c 0 0 0 g.links there (ap (λ rs. slice_get rs 0) (ap ports_of k ∙ is)) links ∙ taken o k is
-
-    named_by : (o : Option KindName) → kind_named p.kind ≡ o → is_some o ≡ true → HasNamed any_kind any_allowed (wiring_of g) c (joined (wiring_of g) c (element_by p o))
-    named_by None k s = absurd (cc)
-    named_by (Some kind.Pinger) k s = record {
-      ports = λ q may. ap (λ n. is_some (link_at (wiring_of g) c n)) may ∙ leads (Some kind.Pinger) k refl;
-      lines = λ i may. absurd may;
-      clocks = λ i may. absurd may;
-    }
-    named_by (Some kind.Echo) k s = record {
-      ports = λ q may. ap (λ n. is_some (link_at (wiring_of g) c n)) may ∙ leads (Some kind.Echo) k refl;
-      lines = λ i may. ap (λ n. is_some (own_from (length (wiring_of g).links) (wiring_of g).inner c n)) may ∙ own_there (length (wiring_of g).links) 0 c c g.components p (omega arith) there k;
-      clocks = λ i may. absurd may;
-    }
-    named_by (Some kind.Ticker) k s = record {
-      ports = λ q may. ap (λ n. is_some (link_at (wiring_of g) c n)) may.0 ∙ may.1;
-      lines = λ i may. absurd may;
-      clocks = λ i may. ap (λ n. is_some (clock_from (length (wiring_of g).links) (wiring_of g).inner c n)) may ∙ clock_there (length (wiring_of g).links) 0 c c g.components p (omega arith) there k;
-    }
-
-  pub all_named : AllNamed any_kind any_allowed (wiring_of g) (model_of g).elements
-  all_named c x at =
-      let f = joined_at (wiring_of g) 0 c c g.components x (omega arith) at in
-      subst (HasNamed any_kind any_allowed (wiring_of g) c) f.is (named_by c f.part f.there (kind_named f.part.kind) refl (has_kind c f.part f.there))
+  pub leads : (o : Option KindName) → kind_named p.kind ≡ o → ports_by (ends_of g.links) c o ≡ map (linked_check (ends_of g.links) c) (the_port ∷ []) → slice_get (ports_of o) 0 ≡ Some the_port → is_some (link_at (wiring_of g) c 0) ≡ true
+  unfolding links_checks
+  leads o k is row = linked_is g.components p (port_text port.Port) c 0 0 0 g.links there (rows_named p 0 the_port (ap (λ q. slice_get (ports_of q) 0) k ∙ row)) links ∙ taken o k is

@@ -1,6 +1,6 @@
 -- The simulation of a graph that was read is safe as it begins.
 use Rattle.std.proofs.Common.{◌≡◌, ℕ, zero, suc, ◌+◌, ◌<◌, ◌≤◌, Bool, true, false, ◌&&◌, cond, eqb, List, [], ◌∷◌, ◌++◌, length, map, Option, Some, None, is_some, refl, sym, ap, ◌∙◌, subst, arith}
-use Rattle.std.specs.Prelude.{slice_get, codes, replicate, nat_le}
+use Rattle.std.specs.Prelude.{slice_get}
 use Rattle.std.proofs.lemmas.Bool.{eq-eqb}
 use Rattle.std.proofs.lemmas.Bool.Decides.{nat_tests}
 use Rattle.std.specs.List.{All}
@@ -10,9 +10,9 @@ use Rattle.ss_model.specs.declared.InnerLine.TheVariants as inner
 use Rattle.ss_model.specs.declared.LinkLine.{LinkLine}
 use Rattle.ss_model.specs.Wiring.{Wiring, clock_from, LinksFit, InnersFit}
 use Rattle.ss_model.specs.Step.{opening}
-use Rattle.ss_safe.specs.Safe.{LinksEnd, owner, InnersEnd, ClocksApart, Opens}
+use Rattle.ss_safe.specs.Laws.{meters_of}
+use Rattle.ss_safe.specs.Safe.{LinksEnd, owner, InnersEnd, ClocksApart, HasNamed, Opens}
 use Rattle.ss_safe.specs.Kept.Found.{some_same, none_some}
-use Rattle.ss_safe.specs.Kept.Flow.{no_pairs, no_credits}
 use Rattle.ss_safe.specs.Worlds.{opening_safe}
 use Rattle.ss_graph.specs.declared.graph.Graph.{Graph}
 use Rattle.ss_graph.specs.declared.graph.Join.{Join}
@@ -21,19 +21,29 @@ use Rattle.ss_graph.specs.Fit.{IsFit, IsSoundLink, ends_of}
 use Rattle.ss_library.specs.declared.table.KindName.{KindName}
 use Rattle.ss_library.specs.declared.table.KindName.TheVariants as kind
 use Rattle.ss_library.specs.declared.kinds.Any.{Any}
-use Rattle.ss_library.specs.declared.kinds.Any.TheVariants as any
-use Rattle.ss_library.specs.declared.fault.MakeFault.{MakeFault}
-use Rattle.ss_library.specs.declared.fault.MakeFault.TheVariants as fault
-use Rattle.ss_graph.specs.Checks.{Check, check, at, first_fault}
+use Rattle.ss_graph.specs.Checks.{first_fault}
 use Rattle.ss_graph.proofs.Judging.{first_fault_append}
-use Rattle.ss_element.specs.Stored.{bins_form, stat_form}
-use Rattle.ss_graph.specs.declared.graph.StatAsk.{StatAsk}
-use Rattle.ss_library.specs.Stats.{empty_by, empty_stats, StatsFit}
-use Rattle.ss_library.specs.Kinds.{any_kind, any_allowed, any_safe, any_ticks, any_fits, AnyHolds, AnyFirst}
-use Rattle.ss_library.specs.Tables.{kind_named, param_value, clock_row, count_row}
-use Rattle.ss_library.specs.Make.{each_numbered, lines_of, inner_by, inner_of, element_by, element_of, wiring_of, model_of, joined, joined_from, params_of, row_check, kind_checks, stats_checks, component_checks, components_checks, links_checks, all_ports_checks, value}
-use Rattle.ss_library.proofs.Values.{count_fits, delay_fits, clock_fits}
-use Rattle.ss_library.proofs.Naming.{holds_by, no_fault, all_named}
+use Rattle.ss_network.specs.declared.ask.RouterAsk.{RouterAsk}
+use Rattle.ss_network.specs.declared.member.Member.{Member}
+use Rattle.ss_network.specs.declared.member.Member.TheVariants as member
+use Rattle.ss_network.specs.Asks.{router_of, endpoint_of}
+use Rattle.ss_network.specs.Network.{first_router, least}
+use Rattle.ss_network.specs.Joined.{IsNetwork, HasPort, Joins}
+use Rattle.ss_network.proofs.Ranges.{router_fits, endpoint_fits}
+use Rattle.ss_fresh.specs.Tied.{AreJoined, AllTied}
+use Rattle.ss_fresh.specs.Begins.{AreRead, bounds, LoadGoes}
+use Rattle.ss_fresh.proofs.Balance.{end_of_line, paired, credited}
+use Rattle.ss_fresh.proofs.Speaking.{lines_agree}
+use Rattle.ss_model.specs.declared.Cause.TheVariants as cause
+use Rattle.mr_flow.specs.declared.Load.{Load}
+use Rattle.ss_library.specs.Kinds.{any_kind, any_allowed, any_safe, any_hears, AnyGives}
+use Rattle.ss_library.specs.Tables.{kind_named, param_value, clock_row}
+use Rattle.ss_library.specs.Make.{each_numbered, lines_of, inner_by, inner_of, wiring_of, members_of, Made, model_of, begun_from, member_of, is_network, rows_by, component_checks, components_checks, links_checks, all_ports_checks, value}
+use Rattle.ss_library.proofs.Values.{clock_fits}
+use Rattle.ss_library.proofs.Naming.{holds_by, no_fault}
+use Rattle.ss_library.proofs.Members.{passed}
+use Rattle.ss_library.proofs.Ties.{all_tied}
+use Rattle.ss_library.proofs.Begun.{CanStart, starts, Voice, Core, Net, voice, read, named, IsBegun, begun_at, begun_count}
 
 links_fit : (ps : List Part) (n : ℕ) (js : List Join) → All (λ j. IsSoundLink ps j) js → LinksFit (each_numbered (lines_of ps) n js)
 unfolding each_numbered
@@ -42,24 +52,21 @@ links_fit ps n (j ∷ js) h =
     let f : IsSoundLink ps j = All-head (IsSoundLink ps) j js h in
     (f.onward.least, f.onward.most, (f.back.least, f.back.most, links_fit ps (n + 1) js (All-tail (IsSoundLink ps) j js h)))
 
--- the checks of component i, where its kind is this one
-abbrev checks_by : ℕ → Part → Option KindName → List (Check MakeFault)
-checks_by i p o = check (is_some o) (fault.UnknownType (at (codes "components") i ++ codes ".type")) ∷ map (row_check i p.params) (params_of o)
-
-inner_before : (i : ℕ) (p : Part) (o : Option KindName) (ys : List InnerLine) → first_fault (checks_by i p o) ≡ None → InnersFit ys → InnersFit (inner_by i p o ++ ys)
+inner_before : (i : ℕ) (p : Part) (o : Option KindName) (ys : List InnerLine) → first_fault (rows_by i p o) ≡ None → InnersFit ys → InnersFit (inner_by i p o ++ ys)
 unfolding first_fault
 inner_before i p None ys c h = h
 inner_before i p (Some kind.Pinger) ys c h = h
 inner_before i p (Some kind.Echo) ys c h = (tt, h)
 inner_before i p (Some kind.Ticker) ys c h = (clock_fits p.params (holds_by (is_some (param_value p.params clock_row)) _ _ c), h)
+inner_before i p (Some kind.Router) ys c h = let t = (router_fits i p.params c).period in ((t.some, t.few), h)
+inner_before i p (Some kind.TestNic) ys c h = let t = (endpoint_fits i p.params c).time in ((t.some, t.few), h)
 
 inner_fit : (n : ℕ) (ps : List Part) → first_fault (each_numbered component_checks n ps) ≡ None → InnersFit (each_numbered inner_of n ps)
-unfolding each_numbered component_checks kind_checks
+unfolding each_numbered
 inner_fit n [] c = tt
 inner_fit n (p ∷ ps) c =
     let both = no_fault (first_fault (component_checks n p)) (first_fault (each_numbered component_checks (n + 1) ps)) (sym (first_fault_append (component_checks n p) (each_numbered component_checks (n + 1) ps)) ∙ c) in
-    let own = no_fault (first_fault (kind_checks n p)) (first_fault (stats_checks n p)) (sym (first_fault_append (kind_checks n p) (stats_checks n p)) ∙ both.0) in
-    inner_before n p (kind_named p.kind) (each_numbered inner_of (n + 1) ps) own.0 (inner_fit (n + 1) ps both.1)
+    inner_before n p (kind_named p.kind) (each_numbered inner_of (n + 1) ps) (passed n p both.0).rows (inner_fit (n + 1) ps both.1)
 
 -- each line of a link ends at a component that is there
 lines_end : (ps : List Part) (n : ℕ) (js : List Join) → All (λ j. IsSoundLink ps j) js → LinksEnd (length ps) (each_numbered (lines_of ps) n js)
@@ -128,6 +135,8 @@ clocks_front i p None ls h = clocks_up i ls h
 clocks_front i p (Some kind.Pinger) ls h = clocks_up i ls h
 clocks_front i p (Some kind.Echo) ls h = clocks_own i i ls (clocks_up i ls h)
 clocks_front i p (Some kind.Ticker) ls h = clocks_clock i (value p clock_row) ls h
+clocks_front i p (Some kind.Router) ls h = clocks_clock i (router_of p.params).period ls h
+clocks_front i p (Some kind.TestNic) ls h = clocks_clock i (endpoint_of p.params).flit_time ls h
 
 clocks_all : (n : ℕ) (ps : List Part) → Clocks n (each_numbered inner_of n ps)
 unfolding each_numbered
@@ -137,79 +146,11 @@ clocks_all n (p ∷ ps) = clocks_front n p (kind_named p.kind) _ (clocks_all (n 
 clocks_apart : (ps : List Part) → ClocksApart (each_numbered inner_of 0 ps)
 clocks_apart ps d c i period g = (clocks_all 0 ps).found 0 d c i period g ∙ ap (λ k. Some (k, period)) {x = 0 + d} {y = d} (omega arith)
 
-zeros : (bins : ℕ) → (bins_form (replicate bins 0)).Fits (replicate bins 0)
-zeros zero = refl
-zeros (suc n) = (omega arith, zeros n)
-
-empty_fits : (a : StatAsk) (b : Bool) → (stat_form (empty_by a b)).Fits (empty_by a b)
-empty_fits a true = (tt, ((refl, refl), (omega arith, (omega arith, (omega arith, zeros a.bins)))))
-empty_fits a false = (tt, (tt, (omega arith, (omega arith, (omega arith, (omega arith, omega arith))))))
-
-stats_fit : (asks : List StatAsk) → StatsFit (empty_stats asks)
-stats_fit [] = refl
-stats_fit (a ∷ asks) = ((refl, empty_fits a a.histogram), stats_fit asks)
-
-element_holds : (p : Part) (o : Option KindName) → AnyHolds (element_by p o)
-element_holds p (Some kind.Pinger) = record { count = omega (arith, count_fits p.params); place = refl; stats = stats_fit p.stats }
-element_holds p (Some kind.Echo) = record { delay = delay_fits p.params; place = refl; stats = stats_fit p.stats }
-element_holds p (Some kind.Ticker) = record { count = omega (arith, count_fits p.params); place = refl; stats = stats_fit p.stats }
-element_holds p None = record { delay = omega arith; place = refl; stats = refl }
-
-zero_within : (n : ℕ) → nat_le 0 n ≡ true
-zero_within n = grind (arith, nat_tests)
-
-element_fits : (p : Part) (o : Option KindName) → any_fits (element_by p o) 1 ≡ true
-element_fits p (Some kind.Pinger) = rw zero_within refl
-element_fits p (Some kind.Echo) = refl
-element_fits p (Some kind.Ticker) = zero_within (value p count_row)
-element_fits p None = refl
-
-element_first : (p : Part) (o : Option KindName) → AnyFirst (element_by p o)
-element_first p (Some kind.Pinger) = (refl, refl, refl)
-element_first p (Some kind.Echo) = tt
-element_first p (Some kind.Ticker) = (refl, refl)
-element_first p None = tt
-
-element_off : (p : Part) (i : ℕ) (o : Option KindName) → any_ticks (element_by p o) i ≡ false
-element_off p i (Some kind.Pinger) = refl
-element_off p i (Some kind.Echo) = refl
-element_off p i (Some kind.Ticker) = refl
-element_off p i None = refl
-
--- what is true of each component when it is made, and stays so when it knows its lines
-module _ (P : Any → Type 0) (f : (p : Part) → P (element_of p)) (stays : (w : Wiring) (i : ℕ) (x : Any) → P x → P (joined w i x)) where
-  each_made : (w : Wiring) (n : ℕ) (ps : List Part) (c : ℕ) (x : Any) → slice_get (joined_from w n (map element_of ps)) c ≡ Some x → P x
-  unfolding joined_from
-  each_made w n [] c x g = absurd (none_some g)
-  each_made w n (p ∷ ps) zero x g = subst P (some_same g) (stays w n (element_of p) (f p))
-  each_made w n (p ∷ ps) (suc c) x g = each_made w (n + 1) ps c x g
-
-pub made_count : (w : Wiring) (n : ℕ) (ps : List Part) → length ps ≡ length (joined_from w n (map element_of ps))
-unfolding joined_from
-made_count w n [] = refl
-made_count w n (p ∷ ps) = let e = made_count w (n + 1) ps in omega (arith, e)
-
-joined_holds : (w : Wiring) (i : ℕ) (x : Any) → AnyHolds x → AnyHolds (joined w i x)
-joined_holds w i (any.Pinger p) h = h
-joined_holds w i (any.Echo e) h = h
-joined_holds w i (any.Ticker t) h = record { count = h.count; place = h.place; stats = h.stats }
-
-joined_fits : (w : Wiring) (i : ℕ) (x : Any) → any_fits x 1 ≡ true → any_fits (joined w i x) 1 ≡ true
-joined_fits w i (any.Pinger p) h = h
-joined_fits w i (any.Echo e) h = h
-joined_fits w i (any.Ticker t) h = h
-
-joined_first : (w : Wiring) (i : ℕ) (x : Any) → AnyFirst x → AnyFirst (joined w i x)
-joined_first w i (any.Pinger p) h = h
-joined_first w i (any.Echo e) h = h
-joined_first w i (any.Ticker t) h = h
-
-joined_off : (k : ℕ) (w : Wiring) (i : ℕ) (x : Any) → any_ticks x k ≡ false → any_ticks (joined w i x) k ≡ false
-joined_off k w i (any.Pinger p) h = h
-joined_off k w i (any.Echo e) h = h
-joined_off k w i (any.Ticker t) h = h
-
 -- each self line and each clock is that of one of the components
+clock_end : (i period : ℕ) (ls : List InnerLine) (count : ℕ) → i < count → InnersEnd count ls → InnersEnd count (inner.Clock i 0 period ∷ ls)
+clock_end i period ls count h rest zero l g = subst (λ m. owner m < count) (some_same g) h
+clock_end i period ls count h rest (suc n) l g = rest n l g
+
 inner_end : (i : ℕ) (p : Part) (o : Option KindName) (ls : List InnerLine) (count : ℕ) → i < count → InnersEnd count ls → InnersEnd count (inner_by i p o ++ ls)
 inner_end i p None ls count h rest = rest
 inner_end i p (Some kind.Pinger) ls count h rest = rest
@@ -218,37 +159,116 @@ inner_end i p (Some kind.Echo) ls count h rest = owned
     owned : InnersEnd count (inner.Own i 0 ∷ ls)
     owned zero l g = subst (λ m. owner m < count) (some_same g) h
     owned (suc n) l g = rest n l g
-inner_end i p (Some kind.Ticker) ls count h rest = owned
-  where
-    owned : InnersEnd count (inner.Clock i 0 (value p clock_row) ∷ ls)
-    owned zero l g = subst (λ m. owner m < count) (some_same g) h
-    owned (suc n) l g = rest n l g
+inner_end i p (Some kind.Ticker) ls count h rest = clock_end i (value p clock_row) ls count h rest
+inner_end i p (Some kind.Router) ls count h rest = clock_end i (router_of p.params).period ls count h rest
+inner_end i p (Some kind.TestNic) ls count h rest = clock_end i (endpoint_of p.params).flit_time ls count h rest
 
 inners_end : (n count : ℕ) (ps : List Part) → n + length ps ≡ count → InnersEnd count (each_numbered inner_of n ps)
 unfolding each_numbered
 inners_end n count [] e = λ m l g. absurd (none_some g)
 inners_end n count (p ∷ ps) e = inner_end n p (kind_named p.kind) (each_numbered inner_of (n + 1) ps) count (omega arith) (inners_end (n + 1) count ps (omega (arith, e)))
 
-model_opens : (g : Graph) → IsFit g → first_fault (components_checks g.components) ≡ None → first_fault (links_checks g.components g.links) ≡ None → first_fault (all_ports_checks (ends_of g.links) g.components) ≡ None → Opens any_kind any_allowed (wiring_of g) (model_of g).elements
-unfolding components_checks
-model_opens g h c links ports = record {
-  stands = record {
-    wires = record {
-      fits = record { links = links_fit g.components 0 g.links h.links; inner = inner_fit 0 g.components c };
-      ends = subst (λ n. LinksEnd n (each_numbered (lines_of g.components) 0 g.links)) (made_count (wiring_of g) 0 g.components) (lines_end g.components 0 g.links h.links);
-      owned = subst (λ n. InnersEnd n (each_numbered inner_of 0 g.components)) (made_count (wiring_of g) 0 g.components) (inners_end 0 (length g.components) g.components (omega arith));
-      apart = clocks_apart g.components;
-    };
-    agrees = λ n l x y there hx hy load at may. may;
-    named = all_named g c links ports;
-    holds = each_made AnyHolds (λ p. element_holds p (kind_named p.kind)) joined_holds (wiring_of g) 0 g.components;
-    paired = no_pairs any_kind (λ x port. refl) (wiring_of g) (model_of g).elements;
-  };
-  elements = each_made (λ x. any_fits x 1 ≡ true) (λ p. element_fits p (kind_named p.kind)) joined_fits (wiring_of g) 0 g.components;
-  first = each_made AnyFirst (λ p. element_first p (kind_named p.kind)) joined_first (wiring_of g) 0 g.components;
-  off = λ b x i there. each_made (λ y. any_ticks y i ≡ false) (λ p. element_off p i (kind_named p.kind)) (joined_off i) (wiring_of g) 0 g.components b x there;
-  credits = no_credits any_kind (λ x port. refl) (wiring_of g) (model_of g).elements;
-}
+-- ---- what goes over the lines
 
-pub model_safe : (g : Graph) → IsFit g → first_fault (components_checks g.components) ≡ None → first_fault (links_checks g.components g.links) ≡ None → first_fault (all_ports_checks (ends_of g.links) g.components) ≡ None → any_safe (wiring_of g) 0 (opening (model_of g).elements)
-model_safe g h c links ports = opening_safe any_kind any_allowed (wiring_of g) (model_of g).elements (model_opens g h c links ports)
+same_first : (ms : List Member) (f h : RouterAsk) → first_router ms ≡ Some f → first_router ms ≡ Some h → f ≡ h
+same_first ms f h a b = some_same (sym a ∙ b)
+
+both-ports : (x y : Member) (p q : ℕ) → AreJoined x p y q → is_network x ≡ true → is_network y ≡ true → HasPort x p × HasPort y q
+both-ports (member.Router r) (member.Router s) p q h a b = h
+both-ports (member.Router r) (member.Endpoint e) p q h a b = h
+both-ports (member.Router r) member.Other p q h a b = absurd h
+both-ports (member.Endpoint e) (member.Router s) p q h a b = h
+both-ports (member.Endpoint e) (member.Endpoint f) p q h a b = h
+both-ports (member.Endpoint e) member.Other p q h a b = absurd h
+both-ports member.Other (member.Router s) p q h a b = absurd h
+both-ports member.Other (member.Endpoint e) p q h a b = absurd h
+both-ports member.Other member.Other p q h a b = absurd cc
+
+one-other : (y : Member) (p q : ℕ) → AreJoined member.Other p y q → is_network y ≡ true → ⊥
+one-other (member.Router s) p q h b = h
+one-other (member.Endpoint e) p q h b = h
+one-other member.Other p q h b = absurd cc
+
+other-one : (x : Member) (p q : ℕ) → AreJoined x p member.Other q → is_network x ≡ true → ⊥
+other-one (member.Router s) p q h b = h
+other-one (member.Endpoint e) p q h b = h
+other-one member.Other p q h b = absurd cc
+
+module _ (w : Wiring) (ms : List Member) (net : IsNetwork w ms) (tied : AllTied w ms) (n : ℕ) (l : LinkLine) (at_l : slice_get w.links n ≡ Some l) where
+  heard : (x y : Any) → Voice w ms l.sender x → Voice w ms l.receiver y → (a : Load) (at : ℕ) → AnyGives x l.out_port a at → any_hears y (cause.Link l.in_port a) at ≡ true
+  heard x y (Core ox gx hx) (Core oy gy hy) a at may = hy l.in_port a at (gx l.out_port a at may)
+  heard x y (Core ox gx hx) (Net f m first there is v) a at may = absurd (one-other m l.out_port l.in_port ((tied n l at_l).ends member.Other m ox there) is)
+  heard x y (Net f m first there is v) (Core oy gy hy) a at may = absurd (other-one m l.out_port l.in_port ((tied n l at_l).ends m member.Other there oy) is)
+  heard x y (Net f m first here is v) (Net h k second there is2 u) a at may =
+      let t = tied n l at_l in
+      let ps = both-ports m k l.out_port l.in_port (t.ends m k here there) is is2 in
+      let j : Joins w ms l.sender l.out_port l.receiver l.in_port m k = record { here = here; there = there; out = ps.0; into = ps.1; ahead = end_of_line w n l.sender l.out_port l.receiver l.in_port t.pair.ahead; back = end_of_line w t.way l.receiver l.in_port l.sender l.out_port t.pair.back } in
+      let goes = v.gives l.out_port a at may in
+      let same : f ≡ h = same_first ms f h first second in
+      u.hears l.in_port a at (lines_agree w ms (bounds h (least ms)) l.sender l.out_port l.receiver l.in_port m k net j a at (subst (λ (r : RouterAsk). LoadGoes (bounds r (least ms)) m l.out_port a at) same goes))
+
+-- ---- the whole
+
+module _ (g : Graph) (h : IsFit g) (c : first_fault (components_checks g.components) ≡ None) (links : first_fault (links_checks g.components g.links) ≡ None) (ports : first_fault (all_ports_checks (ends_of g.links) g.components) ≡ None) (net : IsNetwork (wiring_of g) (members_of g)) where
+  part_at : (i : ℕ) (x : Any) → slice_get (model_of g).elements i ≡ Some x → IsBegun (wiring_of g) (members_of g) i i g.components x
+  part_at i x at = begun_at (wiring_of g) (members_of g) 0 i i g.components x (omega arith) at
+
+  start_at : (i : ℕ) (x : Any) → slice_get (model_of g).elements i ≡ Some x → CanStart x
+  start_at i x at = let f = part_at i x at in subst CanStart f.is (starts g c links ports net i f.part f.there)
+
+  voice_at : (i : ℕ) (x : Any) → slice_get (model_of g).elements i ≡ Some x → Voice (wiring_of g) (members_of g) i x
+  voice_at i x at = let f = part_at i x at in subst (Voice (wiring_of g) (members_of g) i) f.is (voice g c links ports net i f.part f.there)
+
+  read_at : (i : ℕ) (x : Any) → slice_get (model_of g).elements i ≡ Some x → AreRead (meters_of any_kind) (wiring_of g) (members_of g) i x
+  read_at i x at = let f = part_at i x at in subst (AreRead (meters_of any_kind) (wiring_of g) (members_of g) i) f.is (read g c links ports net i f.part f.there)
+
+  tied : AllTied (wiring_of g) (members_of g)
+  unfolding links_checks
+  tied = all_tied g.components g.links (wiring_of g) refl links h.ends
+
+  model_opens : Opens any_kind any_allowed (wiring_of g) (model_of g).elements
+  unfolding components_checks
+  model_opens = record {
+    stands = record {
+      wires = record {
+        fits = record { links = links_fit g.components 0 g.links h.links; inner = inner_fit 0 g.components c };
+        ends = subst (λ n. LinksEnd n (each_numbered (lines_of g.components) 0 g.links)) (begun_count (wiring_of g) (members_of g) 0 g.components) (lines_end g.components 0 g.links h.links);
+        owned = subst (λ n. InnersEnd n (each_numbered inner_of 0 g.components)) (begun_count (wiring_of g) (members_of g) 0 g.components) (inners_end 0 (length g.components) g.components (omega arith));
+        apart = clocks_apart g.components;
+      };
+      agrees = λ n l x y there hx hy load at may. heard (wiring_of g) (members_of g) net tied n l there x y (voice_at l.sender x hx) (voice_at l.receiver y hy) load at may;
+      named = λ i x at. let f = part_at i x at in subst (HasNamed any_kind any_allowed (wiring_of g) i) f.is (named g c links ports net i f.part f.there);
+      holds = λ i x at. (start_at i x at).holds;
+      paired = paired (meters_of any_kind) (wiring_of g) (members_of g) (model_of g).elements net tied read_at;
+    };
+    elements = λ i x at. (start_at i x at).fit;
+    first = λ i x at. (start_at i x at).first;
+    off = λ b x i there. (start_at b x there).off i;
+    credits = credited (meters_of any_kind) (wiring_of g) (members_of g) (model_of g).elements net tied read_at;
+  }
+
+  pub model_safe : any_safe (wiring_of g) 0 (opening (model_of g).elements)
+  model_safe = opening_safe any_kind any_allowed (wiring_of g) (model_of g).elements model_opens
+
+-- ---- what was made, by its parts
+
+pub same_wires : (g : Graph) (before after : Wiring) (ps : List Part) → ps ≡ g.components → before ≡ record { links = each_numbered (lines_of g.components) 0 g.links; inner = [] } → after ≡ record { links = before.links; inner = each_numbered inner_of 0 ps } → after ≡ wiring_of g
+same_wires g before after ps p b a = a ∙ ap (λ (v : Wiring). record { links = v.links; inner = each_numbered inner_of 0 ps }) b ∙ ap (λ (qs : List Part). record { links = each_numbered (lines_of g.components) 0 g.links; inner = each_numbered inner_of 0 qs }) p
+
+module _ (g : Graph) (w : Wiring) (ms : List Member) (xs : List Any) (ps : List Part) (h : IsFit g) (p : ps ≡ g.components) (e : w ≡ wiring_of g) (m : ms ≡ map member_of ps) (v : xs ≡ begun_from w ms 0 ps) where
+  same_members : ms ≡ members_of g
+  same_members = m ∙ ap (map member_of) p
+
+  same_elements : xs ≡ (model_of g).elements
+  same_elements = v ∙ ap (λ (u : Wiring). begun_from u ms 0 ps) e ∙ ap (λ (k : List Member). begun_from (wiring_of g) k 0 ps) same_members ∙ ap (λ (k : List Part). begun_from (wiring_of g) (members_of g) 0 k) p
+
+  pub made_is : ◌≡◌ {A = Made} (record { elements = xs; wires = w }) (model_of g)
+  made_is = ap (λ (k : List Any). record { elements = k; wires = w }) same_elements ∙ ap (λ (u : Wiring). record { elements = (model_of g).elements; wires = u }) e
+
+  pub network_is : IsNetwork w ms → IsNetwork (wiring_of g) (members_of g)
+  network_is n = subst (λ (u : Wiring). IsNetwork u (members_of g)) e (subst (λ (k : List Member). IsNetwork w k) same_members n)
+
+  pub made_safe : first_fault (components_checks ps) ≡ None → first_fault (links_checks g.components g.links) ≡ None → first_fault (all_ports_checks (ends_of g.links) g.components) ≡ None → IsNetwork w ms → any_safe w 0 (opening xs)
+  made_safe c l q n =
+      let s = model_safe g h (subst (λ (k : List Part). first_fault (components_checks k) ≡ None) p c) l q (network_is n) in
+      subst (λ (u : Wiring). any_safe u 0 (opening xs)) (sym e) (subst (λ (k : List Any). any_safe (wiring_of g) 0 (opening k)) (sym same_elements) s)

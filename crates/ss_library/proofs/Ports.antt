@@ -12,12 +12,14 @@ use Rattle.ss_graph.specs.Checks.{first_fault}
 use Rattle.ss_graph.specs.Options.{the}
 use Rattle.ss_graph.specs.Links.{same_end, is_taken, end_key}
 use Rattle.ss_graph.specs.Fit.{ends_of}
-use Rattle.ss_library.specs.declared.fault.MakeFault.{MakeFault}
+use Rattle.ss_network.specs.declared.fault.MakeFault.{MakeFault}
 use Rattle.ss_library.specs.declared.table.KindName.{KindName}
 use Rattle.ss_library.specs.declared.table.KindName.TheVariants as kind
 use Rattle.ss_library.specs.declared.table.PortRow.{PortRow}
-use Rattle.ss_library.specs.Tables.{port_text, port_from, kind_named}
-use Rattle.ss_library.specs.Make.{each_numbered, kind_of_part, kind_at, ports_of, port_in, link_checks, lines_of}
+use Rattle.ss_kinds.specs.Names.{port_text}
+use Rattle.ss_network.specs.Names.{rtr_text}
+use Rattle.ss_library.specs.Tables.{port_from, kind_named}
+use Rattle.ss_library.specs.Make.{each_numbered, ports_of, port_named, port_there, port_in, link_checks, lines_of}
 
 -- ---- the names in a table differ
 
@@ -33,9 +35,11 @@ differ : (o : Option KindName) → Differ (ports_of o)
 differ None = tt
 differ (Some kind.Pinger) = (tt, tt)
 differ (Some kind.Echo) = (tt, tt)
+differ (Some kind.Router) = tt
+differ (Some kind.TestNic) = tt
 differ (Some kind.Ticker) = ((refl, (refl, (refl, (refl, tt)))), ((refl, (refl, (refl, tt))), ((refl, (refl, tt)), ((refl, tt), (tt, tt)))))
 
-same_bytes : (a b : List ℕ) → bytes_eq a b ≡ true → a ≡ b
+pub same_bytes : (a b : List ℕ) → bytes_eq a b ≡ true → a ≡ b
 same_bytes a b h = grind (arith, bytes_eq-Decides)
 
 not_among : (t : List ℕ) (rows : List PortRow) (k : ℕ) (r : PortRow) → NotAmong t rows → slice_get rows k ≡ Some r → bytes_eq (port_text r.name) t ≡ false
@@ -49,7 +53,7 @@ least_by : (b : Bool) (m n : ℕ) (o : Option ℕ) → (o ≡ Some n → m + 1 �
 least_by true m n o h e = let q : m ≡ n = cc in omega arith
 least_by false m n o h e = let q : m + 1 ≤ n = h e in omega arith
 
-port_least : (rows : List PortRow) (m n : ℕ) (s : List ℕ) → port_from m rows s ≡ Some n → m ≤ n
+pub port_least : (rows : List PortRow) (m n : ℕ) (s : List ℕ) → port_from m rows s ≡ Some n → m ≤ n
 port_least [] m n s e = absurd cc
 port_least (x ∷ rows) m n s e = least_by (bytes_eq (port_text x.name) s) m n (port_from (m + 1) rows s) (port_least rows (m + 1) n s) e
 
@@ -76,35 +80,56 @@ some_the : (o : Option ℕ) → is_some o ≡ true → o ≡ Some (the o)
 some_the None h = absurd cc
 some_the (Some n) h = refl
 
-end_by : (ps : List Part) (p : Part) (r : PortRow) (c d k : ℕ) (s : List ℕ) (b : Bool) → nat_eq d c ≡ b → slice_get ps c ≡ Some p → slice_get (ports_of (kind_named p.kind)) k ≡ Some r → is_some (port_from 0 (ports_of (kind_at ps d)) s) ≡ true → (b && nat_eq (the (port_from 0 (ports_of (kind_at ps d)) s)) k) ≡ (nat_eq c d && bytes_eq (port_text r.name) s)
-end_by ps p r c d k s true t h g f =
+-- the one name of port k of a component
+abbrev pub Named : Part → List ℕ → ℕ → Type 0
+Named p t k = (s : List ℕ) (n : ℕ) → port_named p (kind_named p.kind) s ≡ Some n → nat_eq n k ≡ bytes_eq t s
+
+row_named : (p : Part) (o : Option KindName) (k : ℕ) (r : PortRow) → slice_get (ports_of o) k ≡ Some r → (s : List ℕ) (n : ℕ) → port_named p o s ≡ Some n → nat_eq n (0 + k) ≡ bytes_eq (port_text r.name) s
+row_named p None k r g s n h = absurd cc
+row_named p (Some kind.Pinger) k r g s n h = port_is (ports_of (Some kind.Pinger)) 0 k n s r (differ (Some kind.Pinger)) h g
+row_named p (Some kind.Echo) k r g s n h = port_is (ports_of (Some kind.Echo)) 0 k n s r (differ (Some kind.Echo)) h g
+row_named p (Some kind.Ticker) k r g s n h = port_is (ports_of (Some kind.Ticker)) 0 k n s r (differ (Some kind.Ticker)) h g
+row_named p (Some kind.Router) k r g s n h = absurd cc
+row_named p (Some kind.TestNic) k r g s n h = absurd cc
+
+pub rows_named : (p : Part) (k : ℕ) (r : PortRow) → slice_get (ports_of (kind_named p.kind)) k ≡ Some r → Named p (port_text r.name) k
+rows_named p k r g s n h = let v : 0 + k ≡ k = omega arith in ap (nat_eq n) (sym v) ∙ row_named p (kind_named p.kind) k r g s n h
+
+rtr_by : (n : ℕ) (s : List ℕ) (b : Bool) → bytes_eq rtr_text s ≡ b → cond b (Some 0) None ≡ Some n → nat_eq n 0 ≡ bytes_eq rtr_text s
+rtr_by n s true e h = let z : 0 ≡ n = cc in ap (λ m. nat_eq m 0) (sym z) ∙ sym e
+rtr_by n s false e h = absurd cc
+
+pub rtr_named : (p : Part) → kind_named p.kind ≡ Some kind.TestNic → Named p rtr_text 0
+rtr_named p k s n h = rtr_by n s (bytes_eq rtr_text s) refl (ap (λ o. port_named p o s) (sym k) ∙ h)
+
+end_by : (ps : List Part) (p : Part) (t : List ℕ) (c d k : ℕ) (s : List ℕ) (b : Bool) → nat_eq d c ≡ b → slice_get ps c ≡ Some p → Named p t k → is_some (port_there (slice_get ps d) s) ≡ true → (b && nat_eq (the (port_there (slice_get ps d) s)) k) ≡ (nat_eq c d && bytes_eq t s)
+end_by ps p t c d k s true e h g f =
     let q : d ≡ c = grind (arith, nat_tests) in
     let y : nat_eq c d ≡ true = grind (arith, nat_tests) in
-    let a : kind_at ps d ≡ kind_named p.kind = ap (kind_at ps) q ∙ ap kind_of_part h in
-    let z : port_from 0 (ports_of (kind_named p.kind)) s ≡ Some (the (port_from 0 (ports_of (kind_at ps d)) s)) = ap (λ o. port_from 0 (ports_of o) s) (sym a) ∙ some_the _ f in
-    let w : nat_eq (the (port_from 0 (ports_of (kind_at ps d)) s)) (0 + k) ≡ bytes_eq (port_text r.name) s = port_is (ports_of (kind_named p.kind)) 0 k _ s r (differ (kind_named p.kind)) z g in
-    let v : 0 + k ≡ k = omega arith in
-    rw y (rw v at w)
-end_by ps p r c d k s false t h g f = let y : nat_eq c d ≡ false = grind (arith, nat_tests) in rw y refl
+    let a : slice_get ps d ≡ Some p = ap (slice_get ps) q ∙ h in
+    let z : port_named p (kind_named p.kind) s ≡ Some (the (port_there (slice_get ps d) s)) = ap (λ o. port_there o s) (sym a) ∙ some_the _ f in
+    rw y (g s _ z)
+end_by ps p t c d k s false e h g f = let y : nat_eq c d ≡ false = grind (arith, nat_tests) in rw y refl
 
-end_is : (ps : List Part) (p : Part) (r : PortRow) (c k : ℕ) (e : PortEnd) → slice_get ps c ≡ Some p → slice_get (ports_of (kind_named p.kind)) k ≡ Some r → is_some (port_in ps e) ≡ true → (nat_eq e.component c && nat_eq (the (port_in ps e)) k) ≡ same_end (c, port_text r.name) (end_key e)
-end_is ps p r c k e h g f = end_by ps p r c e.component k e.port (nat_eq e.component c) refl h g f
+end_is : (ps : List Part) (p : Part) (t : List ℕ) (c k : ℕ) (e : PortEnd) → slice_get ps c ≡ Some p → Named p t k → is_some (port_in ps e) ≡ true → (nat_eq e.component c && nat_eq (the (port_in ps e)) k) ≡ same_end (c, t) (end_key e)
+end_is ps p t c k e h g f = end_by ps p t c e.component k e.port (nat_eq e.component c) refl h g f
 
 -- ---- all links
 
-two_hold : (a b : Bool) (x y : MakeFault) (o : Option MakeFault) → cond a (cond b o (Some y)) (Some x) ≡ None → (a ≡ true) × (b ≡ true) × (o ≡ None)
-two_hold true true x y o e = (refl, refl, e)
-two_hold true false x y o e = absurd cc
-two_hold false b x y o e = absurd cc
+pub three_hold : (a b d : Bool) (x y z : MakeFault) (o : Option MakeFault) → cond a (cond b (cond d o (Some z)) (Some y)) (Some x) ≡ None → (a ≡ true) × (b ≡ true) × (d ≡ true) × (o ≡ None)
+three_hold true true true x y z o e = (refl, refl, refl, e)
+three_hold true true false x y z o e = absurd cc
+three_hold true false d x y z o e = absurd cc
+three_hold false b d x y z o e = absurd cc
 
 either_line : (a b x y : Bool) (p q : ℕ × ℕ) (o : Option (ℕ × ℕ)) (t : Bool) → a ≡ x → b ≡ y → is_some o ≡ t → is_some (cond a (Some p) (cond b (Some q) o)) ≡ (x || (y || t))
 either_line true b x y p q o t e f g = rw (← e) refl
 either_line false true x y p q o t e f g = rw (← e, ← f) refl
 either_line false false x y p q o t e f g = rw (← e, ← f) g
 
-pub linked_is : (ps : List Part) (p : Part) (r : PortRow) (c k m i : ℕ) (js : List Join) → slice_get ps c ≡ Some p → slice_get (ports_of (kind_named p.kind)) k ≡ Some r → first_fault (each_numbered (link_checks ps) i js) ≡ None → is_some (link_from m (each_numbered (lines_of ps) i js) c k) ≡ is_taken (ends_of js) (c, port_text r.name)
+pub linked_is : (ps : List Part) (p : Part) (t : List ℕ) (c k m i : ℕ) (js : List Join) → slice_get ps c ≡ Some p → Named p t k → first_fault (each_numbered (link_checks ps) i js) ≡ None → is_some (link_from m (each_numbered (lines_of ps) i js) c k) ≡ is_taken (ends_of js) (c, t)
 unfolding each_numbered link_checks first_fault
-linked_is ps p r c k m i [] h g f = refl
-linked_is ps p r c k m i (j ∷ js) h g f =
-    let a = two_hold (is_some (port_in ps j.left)) (is_some (port_in ps j.right)) _ _ (first_fault (each_numbered (link_checks ps) (i + 1) js)) f in
-    either_line _ _ _ _ _ _ (link_from (m + 1 + 1) (each_numbered (lines_of ps) (i + 1) js) c k) (is_taken (ends_of js) (c, port_text r.name)) (end_is ps p r c k j.left h g a.0) (end_is ps p r c k j.right h g a.1) (linked_is ps p r c k (m + 1 + 1) (i + 1) js h g a.2)
+linked_is ps p t c k m i [] h g f = refl
+linked_is ps p t c k m i (j ∷ js) h g f =
+    let a = three_hold (is_some (port_in ps j.left)) (is_some (port_in ps j.right)) _ _ _ _ (first_fault (each_numbered (link_checks ps) (i + 1) js)) f in
+    either_line _ _ _ _ _ _ (link_from (m + 1 + 1) (each_numbered (lines_of ps) (i + 1) js) c k) (is_taken (ends_of js) (c, t)) (end_is ps p t c k j.left h g a.0) (end_is ps p t c k j.right h g a.1) (linked_is ps p t c k (m + 1 + 1) (i + 1) js h g a.3)

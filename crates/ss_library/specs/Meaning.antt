@@ -19,9 +19,11 @@ pub record IsMade (g : Graph) : Type 0 where
 
 abbrev pub any_accepts : Graph → Origin → Type 0
 any_accepts g origin.Start = IsMade g
+-- no run goes on from a checkpoint yet
+any_accepts g (origin.Saved bytes) = ⊥
 
 abbrev pub any_opening : Graph → Origin → Opening Any Load
-any_opening g origin.Start = record { wires = (model_of g).wires; time = 0; state = opening (model_of g).elements }
+any_opening g from = record { wires = (model_of g).wires; time = 0; state = opening (model_of g).elements }
 
 abbrev pub any_meaning : Meaning Any Load
 any_meaning = record { Accepts = any_accepts; opening = any_opening }

@@ -1,5 +1,5 @@
 -- A run of an accepted graph begins in a safe state, with the graph's lines as wires. The proof.
-use Rattle.std.proofs.Common.{◌≡◌, ℕ, zero, suc, ◌+◌, ◌*◌, ◌/◌, ◌%◌, ◌<◌, ◌≤◌, List, [], ◌∷◌, length, Option, Some, None, refl, sym, ap, ◌∙◌, subst, arith}
+use Rattle.std.proofs.Common.{◌≡◌, ℕ, zero, suc, ◌+◌, ◌*◌, ◌/◌, ◌%◌, ◌<◌, ◌≤◌, List, [], ◌∷◌, length, Some, refl, sym, ap, ◌∙◌, subst, arith}
 use Rattle.std.specs.Prelude.{slice_get}
 use Rattle.std.specs.List.{AllByRecursion}
 use Rattle.ss_model.specs.declared.Event.{Event}
@@ -9,10 +9,9 @@ use Rattle.ss_safe.specs.Kept.Found.{some_same, none_some}
 use Rattle.ss_graph.specs.declared.graph.Graph.{Graph}
 use Rattle.ss_graph.specs.declared.graph.Join.{Join}
 use Rattle.ss_graph.specs.declared.graph.Part.{Part}
-use Rattle.ss_graph.specs.Fit.{IsFit, lat, lat_by, line_ends, line_ends_by}
+use Rattle.ss_graph.specs.Fit.{lat_by, line_ends_by}
 use Rattle.ss_run.specs.declared.Origin.TheVariants as origin
 use Rattle.ss_run.specs.Meaning.{IsLineOf, IsOpeningOf, MeaningLaws}
-use Rattle.ss_library.specs.declared.kinds.Any.{Any}
 use Rattle.mr_flow.specs.declared.Load.{Load}
 use Rattle.ss_library.specs.Kinds.{any_safe}
 use Rattle.ss_library.specs.Make.{each_numbered, lines_of, model_of, wiring_of}
@@ -56,10 +55,12 @@ none_before : (es : List (Event Load)) → AllByRecursion (λ e. 0 ≤ e.key.tim
 none_before [] = tt
 none_before (e ∷ es) = (omega arith, none_before es)
 
-made_opens : (g : Graph) → IsMade g → IsOpeningOf any_safe g (any_meaning.opening g origin.Start)
+made_opens : (g : Graph) → IsMade g → IsOpeningOf any_safe g origin.Start (any_meaning.opening g origin.Start)
 made_opens g m = record {
   fit = m.fit;
   early = omega arith;
+  past = omega arith;
+  later = tt;
   safe = record { now = 0; last = 0; safe = m.safe };
   begun = none_before (opening (model_of g).elements).pending;
   whole = m.whole;
@@ -68,3 +69,4 @@ made_opens g m = record {
 
 pub any_opens : MeaningLaws any_safe any_meaning
 any_opens g origin.Start m = made_opens g m
+any_opens g (origin.Saved bytes) m = absurd m

@@ -1,5 +1,5 @@
 -- The kinds' names, and the tables of their parameters, statistics and ports.
-use Rattle.std.specs.Prelude.{ℕ, ◌+◌, ◌*◌, ◌-◌, ◌^◌, ◌==◌, Bool, ◌&&◌, ◌||◌, List, [], ◌∷◌, length, nat_le, nat_lt, if◌then◌else◌, Option, Some, None, true, false, codes}
+use Rattle.std.specs.Prelude.{ℕ, ◌+◌, ◌*◌, ◌-◌, ◌^◌, ◌==◌, Bool, ◌&&◌, ◌||◌, List, [], ◌∷◌, length, map, nat_le, nat_lt, if◌then◌else◌, Option, Some, None, true, false, codes}
 use Rattle.std.specs.Str.{bytes_eq}
 use Rattle.ss_units.specs.Units.{period}
 use Rattle.ss_graph.specs.Options.{ranged, time_of}
@@ -10,14 +10,14 @@ use Rattle.ss_library.specs.declared.table.ParamName.TheVariants as param
 use Rattle.ss_library.specs.declared.table.Form.{Form}
 use Rattle.ss_library.specs.declared.table.Form.TheVariants as form
 use Rattle.ss_library.specs.declared.table.ParamRow.{ParamRow}
-use Rattle.ss_library.specs.declared.table.StatName.{StatName}
-use Rattle.ss_library.specs.declared.table.StatName.TheVariants as stat
-use Rattle.ss_library.specs.declared.table.PortName.{PortName}
-use Rattle.ss_library.specs.declared.table.PortName.TheVariants as port
+use Rattle.ss_kinds.specs.declared.names.StatName.TheVariants as stat
+use Rattle.ss_kinds.specs.declared.names.PortName.{PortName}
+use Rattle.ss_kinds.specs.declared.names.PortName.TheVariants as port
 use Rattle.ss_library.specs.declared.table.PortRow.{PortRow}
+use Rattle.ss_kinds.specs.Names.{stat_text, port_text, ticker_ports}
 
 abbrev pub kind_named : List ℕ → Option KindName
-kind_named s = if bytes_eq s (codes "core.pinger") then Some kind.Pinger else (if bytes_eq s (codes "core.echo") then Some kind.Echo else (if bytes_eq s (codes "core.ticker") then Some kind.Ticker else None))
+kind_named s = if bytes_eq s (codes "core.pinger") then Some kind.Pinger else (if bytes_eq s (codes "core.echo") then Some kind.Echo else (if bytes_eq s (codes "core.ticker") then Some kind.Ticker else (if bytes_eq s (codes "merlin.hr_router") then Some kind.Router else (if bytes_eq s (codes "merlin.test_nic") then Some kind.TestNic else None))))
 
 -- ---- parameters
 
@@ -43,6 +43,8 @@ abbrev pub params_table : KindName → List ParamRow
 params_table kind.Pinger = count_row ∷ []
 params_table kind.Echo = delay_row ∷ []
 params_table kind.Ticker = clock_row ∷ count_row ∷ primary_row ∷ []
+params_table kind.Router = []
+params_table kind.TestNic = []
 
 -- the number that digits write behind v, where it is at most `most`
 abbrev pub digits_value : ℕ → ℕ → List ℕ → Option ℕ
@@ -83,30 +85,19 @@ param_value ps r = value_or r (given ps (param_text r.name))
 
 -- ---- statistics
 
-abbrev pub stat_text : StatName → List ℕ
-stat_text stat.Roundtrip = codes "roundtrip"
-stat_text stat.Received = codes "received"
-stat_text stat.Events = codes "events"
+abbrev pub stats_table : KindName → List (List ℕ)
+stats_table kind.Pinger = stat_text stat.Roundtrip ∷ []
+stats_table kind.Echo = stat_text stat.Received ∷ []
+stats_table kind.Ticker = stat_text stat.Events ∷ []
+stats_table kind.Router = codes "sent" ∷ []
+stats_table kind.TestNic = codes "sent" ∷ codes "received" ∷ codes "latency" ∷ codes "out_of_order" ∷ []
 
-abbrev pub stats_table : KindName → List StatName
-stats_table kind.Pinger = stat.Roundtrip ∷ []
-stats_table kind.Echo = stat.Received ∷ []
-stats_table kind.Ticker = stat.Events ∷ []
-
--- whether one of these has the name
-abbrev pub is_among : List StatName → List ℕ → Bool
+-- whether one of these is the name
+abbrev pub is_among : List (List ℕ) → List ℕ → Bool
 is_among [] s = false
-is_among (n ∷ ns) s = bytes_eq (stat_text n) s || is_among ns s
+is_among (n ∷ ns) s = bytes_eq n s || is_among ns s
 
 -- ---- ports
-
-abbrev pub port_text : PortName → List ℕ
-port_text port.Port = codes "port"
-port_text port.Out = codes "out"
-port_text port.In0 = codes "in0"
-port_text port.In1 = codes "in1"
-port_text port.In2 = codes "in2"
-port_text port.In3 = codes "in3"
 
 abbrev pub the_port : PortRow
 the_port = record { name = port.Port; required = true }
@@ -118,7 +109,9 @@ free_port p = record { name = p; required = false }
 abbrev pub ports_table : KindName → List PortRow
 ports_table kind.Pinger = the_port ∷ []
 ports_table kind.Echo = the_port ∷ []
-ports_table kind.Ticker = free_port port.Out ∷ free_port port.In0 ∷ free_port port.In1 ∷ free_port port.In2 ∷ free_port port.In3 ∷ []
+ports_table kind.Ticker = map free_port ticker_ports
+ports_table kind.Router = []
+ports_table kind.TestNic = []
 
 -- the number of the first row with a name, where the rows' numbers begin with n
 abbrev pub port_from : ℕ → List PortRow → List ℕ → Option ℕ

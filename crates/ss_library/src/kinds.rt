@@ -1,54 +1,15 @@
-//! The core kinds: a pinger, an echo, and an element of one of the kinds.
+//! An element of one of the kinds.
 
-ghost use Rattle.std.specs.Prelude.{◌≡◌, ◌<◌, ◌^◌, ◌∷◌, [], ◌++◌, OnOk, IfOk};
-ghost use Rattle.ss_stats.specs.Set.{place_of};
-ghost use Rattle.ss_library.specs.declared.table.StatName.TheVariants.{Roundtrip, Received};
-ghost use Rattle.ss_library.specs.Tables.{stat_text};
-ghost use Rattle.ss_element.specs.Gives.{Tells};
-ghost use Rattle.ss_library.specs.Saved.{pinger_form, echo_form};
-ghost use Rattle.ss_library.specs.Kinds.{pong_text, sends, thrown, pinger_handled, echo_handled, load_fits as is_core_number};
-
-use crate::stats::tally;
-use crate::ticker::Ticker;
-use itoa::Buffer;
-use mr_flow::{Load, read_core_load};
-use ss_element::{Acts, Element, Flow, RestoreFault, restore_stats, save_stats};
-use ss_model::{Action, Cause};
+use mr_flow::Load;
+use mr_nic::{TestNic, TrafficGen};
+use mr_router::Router;
+use ss_element::{Acts, Element, Flow, RestoreFault};
+use ss_kinds::{Echo, Pinger, Ticker};
+use ss_model::Cause;
 use ss_safe::Local;
 use ss_stats::StatSet;
-use ss_units::Text;
 use ss_wire::{Reader, Writer};
 use std::alloc::{AllocError, Global};
-
-/// Sends the numbers from 1 to `count` out of its port, each when the one before came back, and prints
-/// what comes back.
-#[derive(Drop)]
-pub struct Pinger {
-    /// The name in the graph.
-    pub name: Text,
-    pub count: u32,
-    /// The last number that was sent; 0 at first.
-    pub sent: u32,
-    /// How many came back.
-    pub got: u32,
-    /// When the last was sent, in picoseconds.
-    pub at: u64,
-    /// The statistics that its graph asked for.
-    pub stats: StatSet,
-    /// The place of `roundtrip` among them, if it is there.
-    pub roundtrip: Option<usize>,
-}
-
-/// Sends back what comes.
-#[derive(Drop)]
-pub struct Echo {
-    /// How long it waits before it does, in picoseconds.
-    pub delay: u64,
-    /// The statistics that its graph asked for.
-    pub stats: StatSet,
-    /// The place of `received` among them, if it is there.
-    pub received: Option<usize>,
-}
 
 /// An element of one of the kinds.
 #[derive(Drop)]
@@ -56,154 +17,9 @@ pub enum Any {
     Pinger(Pinger),
     Echo(Echo),
     Ticker(Ticker),
-}
-
-/// Sends a number out of the port.
-pub(crate) fn send(n: u32, acts: &mut Acts<Load>) -> Result<(), AllocError>
-    ensures { OnOk result (acts.new ≡ acts.old ++ sends n ∷ []) }
-{
-    acts.push(Action::Send {
-        port: 0,
-        extra: 0,
-        load: Load::Core { n },
-    })
-}
-
-impl Pinger {
-    /// What is printed when a number comes back.
-    fn pong_text(&self, alloc: Global, n: u32, now: u64) -> Result<Text, AllocError>
-        ensures { IfOk result (λ t. t ≡ pong_text self.now.name n now) }
-    {
-        let name = self.name.as_str();
-        let mut digits = Buffer::new();
-        let mut text = String::with_capacity(alloc, name.len() + 64)?;
-        text.push_str(name)?;
-        text.push_str(": pong ")?;
-        text.push_str(digits.format(n))?;
-        text.push_str(" at ")?;
-        text.push_str(digits.format(now))?;
-        text.push_str(" ps\n")?;
-        Ok(Text::from_string(text))
-    }
-
-    /// Sends a number, and notes it.
-    fn throw(&mut self, n: u32, now: u64, acts: &mut Acts<Load>) -> Result<(), AllocError>
-        ensures state { OnOk result (self.new ≡ thrown self.old n now) }
-        ensures actions { OnOk result (acts.new ≡ acts.old ++ sends n ∷ []) }
-    {
-        self.sent = n;
-        self.at = now;
-        send(n, acts)
-    }
-
-    pub(crate) fn handle(
-        &mut self,
-        now: u64,
-        cause: &Cause<Load>,
-        acts: &mut Acts<Load>,
-    ) -> Result<(), AllocError>
-        requires { self.old.roundtrip ≡ place_of self.old.stats (stat_text Roundtrip) }
-        ensures state { OnOk result (self.new ≡ (pinger_handled self.old now cause.now).state) }
-        ensures actions { OnOk result (acts.new ≡ acts.old ++ (pinger_handled self.old now cause.now).actions) }
-    {
-        match cause {
-            Cause::Start => {
-                if self.count > 0 {
-                    self.throw(1, now, acts)?;
-                }
-                Ok(())
-            }
-            Cause::Link { load, .. } => {
-                let Load::Core { n } = load else {
-                    return Ok(());
-                };
-                let text = self.pong_text(acts.allocator(), *n, now)?;
-                acts.push(Action::Print { text })?;
-                let taken = now.saturating_sub(self.at);
-                tally(&mut self.stats, self.roundtrip, taken);
-                self.got = self.got.saturating_add(1).min(self.count);
-                if self.sent < self.count {
-                    self.throw(self.sent + 1, now, acts)?;
-                }
-                Ok(())
-            }
-            Cause::Own { .. } | Cause::Tick { .. } => Ok(()),
-        }
-    }
-
-    /// Writes what runs change: 4 bytes of what was sent last, 4 of how many came back, 8 of when it was sent, and
-    /// the statistics.
-    fn save(&self, out: &mut Writer) -> Result<(), AllocError>
-        ensures { OnOk result (out.new ≡ out.old ++ (pinger_form self.now).spell self.now) }
-    {
-        out.u32(self.sent)?;
-        out.u32(self.got)?;
-        out.u64(self.at)?;
-        save_stats(&self.stats, out)?;
-        Ok(())
-    }
-
-    fn restore(&mut self, bytes: &mut Reader<'_>) -> Result<(), RestoreFault>
-        ensures { Tells (λ u. self.new) result bytes.new ((pinger_form self.old).read bytes.old) }
-    {
-        self.sent = bytes.u32()?;
-        self.got = bytes.u32()?;
-        self.at = bytes.u64()?;
-        restore_stats(&mut self.stats, bytes)
-    }
-}
-
-impl Echo {
-    fn restore(&mut self, bytes: &mut Reader<'_>) -> Result<(), RestoreFault>
-        ensures { Tells (λ u. self.new) result bytes.new ((echo_form self.old).read bytes.old) }
-    {
-        restore_stats(&mut self.stats, bytes)
-    }
-
-    pub(crate) fn handle(
-        &mut self,
-        cause: &Cause<Load>,
-        acts: &mut Acts<Load>,
-    ) -> Result<(), AllocError>
-        requires { self.old.received ≡ place_of self.old.stats (stat_text Received) }
-        ensures state { OnOk result (self.new ≡ (echo_handled self.old cause.now).state) }
-        ensures actions { OnOk result (acts.new ≡ acts.old ++ (echo_handled self.old cause.now).actions) }
-    {
-        match cause {
-            Cause::Link { load, .. } => {
-                let Load::Core { n } = load else {
-                    return Ok(());
-                };
-                tally(&mut self.stats, self.received, *n as u64);
-                if self.delay == 0 {
-                    send(*n, acts)
-                } else {
-                    acts.push(Action::SelfSend {
-                        line: 0,
-                        delay: self.delay,
-                        load: *load,
-                    })
-                }
-            }
-            Cause::Own { load, .. } => {
-                let Load::Core { n } = load else {
-                    return Ok(());
-                };
-                send(*n, acts)
-            }
-            Cause::Start | Cause::Tick { .. } => Ok(()),
-        }
-    }
-}
-
-/// Whether a load is a number of a core kind.
-fn load_fits(load: &Load) -> bool
-    ensures { result ≡ is_core_number load.now }
-{
-    match load {
-        Load::Core { n } => u64::from(*n) < 1 << 32,
-        Load::Net(_) => false,
-    }
+    TestNic(TestNic),
+    TrafficGen(TrafficGen),
+    Router(Router),
 }
 
 impl Element for Any {
@@ -231,92 +47,133 @@ impl Element for Any {
     ) -> Result<(), AllocError> {
         match self {
             Any::Pinger(pinger) => pinger.handle(now, cause, acts),
-            Any::Echo(echo) => echo.handle(cause, acts),
+            Any::Echo(echo) => echo.handle(now, cause, acts),
             Any::Ticker(ticker) => ticker.handle(now, cause, acts),
+            Any::TestNic(nic) => nic.handle(now, cause, acts),
+            Any::TrafficGen(traffic) => traffic.handle(now, cause, acts),
+            Any::Router(router) => router.handle(now, cause, acts),
         }
     }
 
     fn save(&self, out: &mut Writer) -> Result<(), AllocError> {
         match self {
             Any::Pinger(pinger) => pinger.save(out),
-            Any::Echo(echo) => save_stats(&echo.stats, out),
+            Any::Echo(echo) => echo.save(out),
             Any::Ticker(ticker) => ticker.save(out),
+            Any::TestNic(nic) => nic.save(out),
+            Any::TrafficGen(traffic) => traffic.save(out),
+            Any::Router(router) => router.save(out),
         }
     }
 
-    #[tactic(auto, using(crate::proofs::Restored::as_any_gives))]
-    fn restore(&mut self, _alloc: Global, bytes: &mut Reader<'_>) -> Result<(), RestoreFault> {
+    #[tactic(auto, using(ss_kinds::proofs::Restored::read_is_given))]
+    fn restore(&mut self, alloc: Global, bytes: &mut Reader<'_>) -> Result<(), RestoreFault> {
         match self {
-            Any::Pinger(pinger) => pinger.restore(bytes),
-            Any::Echo(echo) => echo.restore(bytes),
-            Any::Ticker(ticker) => ticker.restore(bytes),
+            Any::Pinger(pinger) => pinger.restore(alloc, bytes),
+            Any::Echo(echo) => echo.restore(alloc, bytes),
+            Any::Ticker(ticker) => ticker.restore(alloc, bytes),
+            Any::TestNic(nic) => nic.restore(alloc, bytes),
+            Any::TrafficGen(traffic) => traffic.restore(alloc, bytes),
+            Any::Router(router) => router.restore(alloc, bytes),
         }
     }
 
     fn read_load(&self, bytes: &mut Reader<'_>) -> Result<Load, RestoreFault> {
-        read_core_load(bytes)
+        match self {
+            Any::Pinger(pinger) => pinger.read_load(bytes),
+            Any::Echo(echo) => echo.read_load(bytes),
+            Any::Ticker(ticker) => ticker.read_load(bytes),
+            Any::TestNic(nic) => nic.read_load(bytes),
+            Any::TrafficGen(traffic) => traffic.read_load(bytes),
+            Any::Router(router) => router.read_load(bytes),
+        }
     }
 
     fn fits(&self, at: u64) -> bool {
         match self {
-            Any::Pinger(pinger) => pinger.sent <= pinger.count
-                && pinger.got <= pinger.count
-                && pinger.at < at,
-            Any::Echo(_) => true,
-            Any::Ticker(ticker) => ticker.ticks <= ticker.count,
+            Any::Pinger(pinger) => pinger.fits(at),
+            Any::Echo(echo) => echo.fits(at),
+            Any::Ticker(ticker) => ticker.fits(at),
+            Any::TestNic(nic) => nic.fits(at),
+            Any::TrafficGen(traffic) => traffic.fits(at),
+            Any::Router(router) => router.fits(at),
         }
     }
 
-    fn fits_load(&self, cause: &Cause<Load>, _at: u64) -> bool {
-        match cause {
-            Cause::Start | Cause::Tick { .. } => true,
-            Cause::Link { load, .. } | Cause::Own { load, .. } => load_fits(load),
+    fn fits_load(&self, cause: &Cause<Load>, at: u64) -> bool {
+        match self {
+            Any::Pinger(pinger) => pinger.fits_load(cause, at),
+            Any::Echo(echo) => echo.fits_load(cause, at),
+            Any::Ticker(ticker) => ticker.fits_load(cause, at),
+            Any::TestNic(nic) => nic.fits_load(cause, at),
+            Any::TrafficGen(traffic) => traffic.fits_load(cause, at),
+            Any::Router(router) => router.fits_load(cause, at),
         }
     }
 
     fn is_primary(&self) -> bool {
         match self {
-            Any::Pinger(_) => true,
-            Any::Echo(_) => false,
-            Any::Ticker(ticker) => ticker.primary,
+            Any::Pinger(pinger) => pinger.is_primary(),
+            Any::Echo(echo) => echo.is_primary(),
+            Any::Ticker(ticker) => ticker.is_primary(),
+            Any::TestNic(nic) => nic.is_primary(),
+            Any::TrafficGen(traffic) => traffic.is_primary(),
+            Any::Router(router) => router.is_primary(),
         }
     }
 
     fn is_done(&self) -> bool {
         match self {
-            Any::Pinger(pinger) => pinger.got == pinger.count,
-            Any::Echo(_) => true,
-            Any::Ticker(ticker) => ticker.ticks == ticker.count,
+            Any::Pinger(pinger) => pinger.is_done(),
+            Any::Echo(echo) => echo.is_done(),
+            Any::Ticker(ticker) => ticker.is_done(),
+            Any::TestNic(nic) => nic.is_done(),
+            Any::TrafficGen(traffic) => traffic.is_done(),
+            Any::Router(router) => router.is_done(),
         }
     }
 
     fn clock_on(&self, clock: u16) -> bool {
         match self {
-            Any::Pinger(_) | Any::Echo(_) => false,
-            Any::Ticker(ticker) => ticker.begun && clock == 0 && ticker.ticks < ticker.count,
+            Any::Pinger(pinger) => pinger.clock_on(clock),
+            Any::Echo(echo) => echo.clock_on(clock),
+            Any::Ticker(ticker) => ticker.clock_on(clock),
+            Any::TestNic(nic) => nic.clock_on(clock),
+            Any::TrafficGen(traffic) => traffic.clock_on(clock),
+            Any::Router(router) => router.clock_on(clock),
         }
     }
 
-    fn channels(&self, _port: u16) -> u16 {
-        0
+    fn channels(&self, port: u16) -> u16 {
+        match self {
+            Any::Pinger(pinger) => pinger.channels(port),
+            Any::Echo(echo) => echo.channels(port),
+            Any::Ticker(ticker) => ticker.channels(port),
+            Any::TestNic(nic) => nic.channels(port),
+            Any::TrafficGen(traffic) => traffic.channels(port),
+            Any::Router(router) => router.channels(port),
+        }
     }
 
-    /// Nothing: no port has a channel.
-    fn flow(&self, _port: u16, _channel: u8) -> Flow
-        ensures { result ≡ record { credits = 0; queued = 0; capacity = 0 } }
-    {
-        Flow {
-            credits: 0,
-            queued: 0,
-            capacity: 0,
+    fn flow(&self, port: u16, channel: u8) -> Flow {
+        match self {
+            Any::Pinger(pinger) => pinger.flow(port, channel),
+            Any::Echo(echo) => echo.flow(port, channel),
+            Any::Ticker(ticker) => ticker.flow(port, channel),
+            Any::TestNic(nic) => nic.flow(port, channel),
+            Any::TrafficGen(traffic) => traffic.flow(port, channel),
+            Any::Router(router) => router.flow(port, channel),
         }
     }
 
     fn stats(&self) -> &StatSet {
         match self {
-            Any::Pinger(pinger) => &pinger.stats,
-            Any::Echo(echo) => &echo.stats,
-            Any::Ticker(ticker) => &ticker.stats,
+            Any::Pinger(pinger) => pinger.stats(),
+            Any::Echo(echo) => echo.stats(),
+            Any::Ticker(ticker) => ticker.stats(),
+            Any::TestNic(nic) => nic.stats(),
+            Any::TrafficGen(traffic) => traffic.stats(),
+            Any::Router(router) => router.stats(),
         }
     }
 }

@@ -4,11 +4,11 @@ ghost use Rattle.std.specs.Prelude.{◌≡◌, ◌≤◌, ◌∷◌, [], IfOk};
 ghost use Rattle.ss_graph.specs.Checks.{Judged};
 ghost use Rattle.ss_graph.specs.Options.{the, ranged};
 ghost use Rattle.ss_library.specs.Tables.{digits_value, count_value, truth_value, value_of, param_value};
-ghost use Rattle.ss_library.specs.Make.{is_memory, row_check};
+ghost use Rattle.ss_network.specs.Faults.{is_memory};
+ghost use Rattle.ss_library.specs.Make.{row_check};
 
-use crate::fault::MakeFault;
-use crate::place::item_place;
 use crate::table::{Form, ParamRow, param_name};
+use ss_network::{MakeFault, item_place};
 use ss_units::{Text, UnitFault, period_of, ps_of};
 use std::alloc::Global;
 

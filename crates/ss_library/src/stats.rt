@@ -1,48 +1,17 @@
-//! The statistics that elements keep.
+//! The statistics that elements begin with.
 
-ghost use Rattle.std.specs.Prelude.{◌≡◌, ◌<◌, ◌∷◌, [], length, take, not, ◌||◌, true, IfOk, IfSome, Some};
-ghost use Rattle.ss_stats.specs.Set.{place_of};
+ghost use Rattle.std.specs.Prelude.{◌≡◌, ◌∷◌, [], take, not, ◌||◌, true, IfOk, Some};
 ghost use Rattle.ss_graph.specs.Checks.{Judged};
-ghost use Rattle.ss_library.specs.Tables.{is_among, stat_text};
-ghost use Rattle.ss_library.specs.Stats.{empty_stat, empty_stats, has_bins, is_asked_before, added};
-ghost use Rattle.ss_library.specs.Make.{is_memory, stats_of as names_of, stat_check, stats_by};
+ghost use Rattle.ss_network.specs.Faults.{is_memory};
+ghost use Rattle.ss_library.specs.Stats.{empty_stat, empty_stats, has_bins, is_asked_before};
+ghost use Rattle.ss_library.specs.Make.{stat_check, stats_by};
 
-use crate::fault::MakeFault;
-use crate::place::{item_place, push_index};
-use crate::table::{KindName, StatName, stat_name, stats_of};
+use crate::table::{KindName, has_stat};
 use ss_graph::{Part, StatAsk};
+use ss_network::{MakeFault, item_place, push_index};
 use ss_stats::{Accumulator, Histogram, Stat, StatSet};
 use ss_units::Text;
 use std::alloc::{AllocError, Global};
-
-/// Adds a value to the statistic at a place, where the graph asked for it. It takes no memory.
-pub(crate) fn tally(stats: &mut StatSet, place: Option<usize>, value: u64)
-    requires { IfSome place (λ i. i < length stats.old) }
-    ensures { stats.new ≡ added stats.old place value }
-{
-    if let Some(index) = place {
-        stats.add(index, value);
-    }
-}
-
-/// The place of a statistic in a set.
-pub fn place_in(stats: &StatSet, name: StatName) -> Option<usize>
-    ensures { result ≡ place_of stats.now (stat_text name) }
-{
-    stats.find(stat_name(name).as_bytes())
-}
-
-/// Whether a kind has a statistic of this name.
-fn is_known(kind: KindName, name: &str) -> bool
-    ensures { result ≡ is_among (names_of (Some kind)) name.now }
-{
-    for known in stats_of(kind) {
-        if stat_name(*known) == name {
-            return true;
-        }
-    }
-    false
-}
 
 /// Whether a histogram's bins may be so wide and so many.
 fn can_be_binned(ask: &StatAsk) -> bool
@@ -82,7 +51,7 @@ fn stat_at(
 {
     let name = ask.name.as_str();
     let is_new = before.find(name.as_bytes()).is_none();
-    if is_known(kind, name) && is_new && (!ask.histogram || can_be_binned(ask)) {
+    if has_stat(kind, name) && is_new && (!ask.histogram || can_be_binned(ask)) {
         return Ok(new_stat(alloc, ask)?);
     }
     let mut place = item_place(alloc, "components", index)?;

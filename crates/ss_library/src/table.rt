@@ -1,7 +1,9 @@
 //! The kinds' names, and the tables of their parameters, statistics and ports.
 
-ghost use Rattle.std.specs.Prelude.{◌≡◌, ◌<◌, ◌≤◌, ◌^◌, slice_get, length, IfSome};
-ghost use Rattle.ss_library.specs.Tables.{kind_named, param_text, port_text, count_row, delay_row, clock_row, primary_row, stat_text, stats_table, ports_table, port_by};
+ghost use Rattle.std.specs.Prelude.{◌≡◌, ◌∷◌, [], codes, ◌<◌, ◌≤◌, ◌^◌, slice_get, length, IfSome};
+ghost use Rattle.ss_library.specs.Tables.{kind_named, param_text, count_row, delay_row, clock_row, primary_row, stats_table, is_among, ports_table, port_by};
+
+use ss_kinds::{PortName, StatName, port_name, stat_name};
 
 /// The name of a kind.
 #[derive(Clone, Copy, Debug, PartialEq, Eq)]
@@ -9,6 +11,8 @@ pub enum KindName {
     Pinger,
     Echo,
     Ticker,
+    Router,
+    TestNic,
 }
 
 /// The name of a parameter.
@@ -39,25 +43,6 @@ pub struct ParamRow {
     pub name: ParamName,
     pub form: Form,
     pub default: Option<u64>,
-}
-
-/// The name of a statistic.
-#[derive(Clone, Copy, Debug, PartialEq, Eq)]
-pub enum StatName {
-    Roundtrip,
-    Received,
-    Events,
-}
-
-/// The name of a port.
-#[derive(Clone, Copy, Debug, PartialEq, Eq)]
-pub enum PortName {
-    Port,
-    Out,
-    In0,
-    In1,
-    In2,
-    In3,
 }
 
 /// A row of a kind's table of ports. A port that is required must be linked.
@@ -104,11 +89,7 @@ pub const PRIMARY: ParamRow = ParamRow {
     default: Some(1),
 };
 
-static PINGER_STATS: [StatName; 1] = [StatName::Roundtrip];
-
-static ECHO_STATS: [StatName; 1] = [StatName::Received];
-
-static TICKER_STATS: [StatName; 1] = [StatName::Events];
+static NO_PORTS: [PortRow; 0] = [];
 
 static ONE_PORT: [PortRow; 1] = [PortRow {
     name: PortName::Port,
@@ -146,6 +127,8 @@ pub fn kind_of(text: &str) -> Option<KindName>
         "core.pinger" => Some(KindName::Pinger),
         "core.echo" => Some(KindName::Echo),
         "core.ticker" => Some(KindName::Ticker),
+        "merlin.hr_router" => Some(KindName::Router),
+        "merlin.test_nic" => Some(KindName::TestNic),
         _ => None,
     }
 }
@@ -161,41 +144,32 @@ pub fn param_name(name: ParamName) -> &'static str
     }
 }
 
-pub fn stat_name(name: StatName) -> &'static str
-    ensures { result.now ≡ stat_text name }
-{
-    match name {
-        StatName::Roundtrip => "roundtrip",
-        StatName::Received => "received",
-        StatName::Events => "events",
-    }
-}
-
-/// The statistics of a kind.
-pub fn stats_of(kind: KindName) -> &'static [StatName]
-    ensures { result.now ≡ stats_table kind }
+/// Whether a kind has a statistic of this name.
+pub fn has_stat(kind: KindName, name: &str) -> bool
+    ensures { result ≡ is_among (stats_table kind) name.now }
 {
     match kind {
-        KindName::Pinger => &PINGER_STATS,
-        KindName::Echo => &ECHO_STATS,
-        KindName::Ticker => &TICKER_STATS,
+        KindName::Pinger => stat_name(StatName::Roundtrip) == name,
+        KindName::Echo => stat_name(StatName::Received) == name,
+        KindName::Ticker => stat_name(StatName::Events) == name,
+        KindName::Router => name == "sent",
+        KindName::TestNic => is_nic_stat(name),
     }
 }
 
-pub fn port_name(name: PortName) -> &'static str
-    ensures { result.now ≡ port_text name }
+fn is_late_stat(name: &str) -> bool
+    ensures { result ≡ is_among (codes "latency" ∷ codes "out_of_order" ∷ []) name.now }
 {
-    match name {
-        PortName::Port => "port",
-        PortName::Out => "out",
-        PortName::In0 => "in0",
-        PortName::In1 => "in1",
-        PortName::In2 => "in2",
-        PortName::In3 => "in3",
-    }
+    "latency" == name || "out_of_order" == name
 }
 
-/// The ports of a kind, each with its number as the place in the table.
+fn is_nic_stat(name: &str) -> bool
+    ensures { result ≡ is_among (stats_table KindName.TestNic) name.now }
+{
+    "sent" == name || "received" == name || is_late_stat(name)
+}
+
+/// The ports of a core kind, each with its number as the place in the table.
 pub fn ports_of(kind: KindName) -> &'static [PortRow]
     ensures rows { result.now ≡ ports_table kind }
     ensures few { length result.now ≤ 256 }
@@ -203,6 +177,7 @@ pub fn ports_of(kind: KindName) -> &'static [PortRow]
     match kind {
         KindName::Pinger | KindName::Echo => &ONE_PORT,
         KindName::Ticker => &TICKER_PORTS,
+        KindName::Router | KindName::TestNic => &NO_PORTS,
     }
 }
 

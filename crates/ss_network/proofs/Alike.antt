@@ -12,7 +12,7 @@ use Rattle.ss_network.specs.declared.ask.RouterAsk.{RouterAsk}
 use Rattle.ss_network.specs.declared.ask.EndpointAsk.{EndpointAsk}
 use Rattle.ss_network.specs.declared.member.Member.{Member}
 use Rattle.ss_network.specs.declared.member.Member.TheVariants as member
-use Rattle.ss_network.specs.Network.{first_router, router_id, router_ids, endpoint_id, endpoint_ids, is_new, least, capacity, same_kind, same_sizes, same_levels, same_shape, same_local, same_checks, router_by, routers_checks, fit_checks, endpoint_by, endpoints_checks}
+use Rattle.ss_network.specs.Network.{first_router, router_id, router_ids, endpoint_id, endpoint_ids, is_new, least, capacity, same_kind, same_sizes, same_levels, same_shape, same_local, same_checks, router_by, routers_checks, fits_pattern, fit_checks, endpoint_by, endpoints_checks}
 use Rattle.ss_network.specs.Joined.{IsNetwork, AllAlike, AllGuests, OneOfEach, LeastOfAll}
 use Rattle.ss_network.proofs.Joined.{none-cons, below-each, within, has-first, fits-of}
 
@@ -115,7 +115,8 @@ record Allowed (f : RouterAsk) (e : EndpointAsk) (ids : List ℕ) (most : ℕ) :
   peers : ((routes f.topology).endpoints == e.peers) ≡ true
   vns : (f.vns == e.vns) ≡ true
   flit : (f.flit_bits == e.flit_bits) ≡ true
-  message : nat_le e.message_flits most ≡ true
+  size : nat_le e.flits most ≡ true
+  pattern : fits_pattern e.work (routes f.topology).endpoints ≡ true
 
 endpoint-passed : (f : RouterAsk) (ms : List Member) → first_fault (endpoints_checks f ms) ≡ None → (i : ℕ) (e : EndpointAsk) → slice_get ms i ≡ Some (member.Endpoint e) → Allowed f e (endpoint_ids (take i ms)) (least ms)
 unfolding endpoints_checks fit_checks
@@ -127,7 +128,8 @@ endpoint-passed f ms h i e q =
     let c3 = none-cons _ _ _ c2.1 in
     let c4 = none-cons _ _ _ c3.1 in
     let c5 = none-cons _ _ _ c4.1 in
-    record { fresh = c1.0; peers = c2.0; vns = c3.0; flit = c4.0; message = c5.0 }
+    let c6 = none-cons _ _ _ c5.1 in
+    record { fresh = c1.0; peers = c2.0; vns = c3.0; flit = c4.0; size = c5.0; pattern = c6.0 }
 
 pub all_alike : (w : Wiring) (ms : List Member) → IsNetwork w ms → AllAlike ms
 all_alike w ms h i r e =
@@ -156,7 +158,8 @@ all_guests w ms h i f e q g =
       peers = sym (same-number (routes f.topology).endpoints e.peers k.peers);
       vns = sym (same-number f.vns e.vns k.vns);
       flit = sym (same-number f.flit_bits e.flit_bits k.flit);
-      message = le-of e.message_flits (least ms) k.message;
+      size = le-of e.flits (least ms) k.size;
+      pattern = subst (λ (n : ℕ). fits_pattern e.work n ≡ true) (same-number (routes f.topology).endpoints e.peers k.peers) k.pattern;
     }
 
 -- a number that is among those before

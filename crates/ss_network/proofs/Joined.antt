@@ -14,8 +14,8 @@ use Rattle.mr_router.specs.declared.topology.Topology.{Topology}
 use Rattle.mr_router.specs.declared.topology.Topology.TheVariants as topology
 use Rattle.ss_network.specs.declared.fault.MakeFault.{MakeFault}
 use Rattle.mr_router.specs.Network.{routes, lanes_to}
-use Rattle.ss_network.specs.Network.{below_checks, first_router, router_ids, endpoint_ids, least, same_kind, same_checks, router_by, routers_checks, fit_checks, endpoint_by, endpoints_checks, ports_of, peer_of, end_of, is_router, is_endpoint, is_peer, is_tied, is_wired, port_checks, ports_by, ports_checks, is_home_of, is_home, home_by, homes_checks, member_checks, network_checks, channels_of}
-use Rattle.ss_network.specs.Joined.{IsNetwork, Joins, LeadsWell, ComesHome, SameChannels}
+use Rattle.ss_network.specs.Network.{below_checks, first_router, router_ids, endpoint_ids, least, same_kind, same_checks, router_by, routers_checks, fit_checks, endpoint_by, endpoints_checks, ports_of, peer_of, end_of, is_router, is_endpoint, is_peer, is_tied, is_wired, port_checks, ports_by, ports_checks, is_home_of, is_home, home_by, homes_checks, member_checks, network_checks, channels_of, lanes_of}
+use Rattle.ss_network.specs.Joined.{IsNetwork, Joins, LeadsWell, ComesHome, SameChannels, SameLanes}
 
 -- checks that all pass
 
@@ -230,6 +230,22 @@ module _ (w : Wiring) (ms : List Member) (h : IsNetwork w ms) where
   by-ends i p c q member.Other y j = absurd j.out
   by-ends i p c q (member.Router r) member.Other j = absurd j.into
   by-ends i p c q (member.Endpoint e) member.Other j = absurd j.into
+
+module _ (w : Wiring) (ms : List Member) (h : IsNetwork w ms) where
+  lanes-by-ends : (i p c q : ℕ) (x y : Member) → Joins w ms i p c q x y → lanes_of x p ≡ lanes_of y q
+  lanes-by-ends i p c q (member.Router r) (member.Router s) j =
+      let lr = (routes r.topology).channels in
+      let ls = (routes s.topology).channels in
+      to-router (peer_of r p) ms (c, q) s lr j.there (wired w ms h i p c q r j.here j.out j.ahead) ∙ (routers-same w ms h i c r s j.here j.there).1 ∙ sym (to-router (peer_of s q) ms (i, p) r ls j.here (wired w ms h c q i p s j.there j.into j.back))
+  lanes-by-ends i p c q (member.Router r) (member.Endpoint e) j = to-endpoint (peer_of r p) ms (c, q) e (routes r.topology).channels j.there (wired w ms h i p c q r j.here j.out j.ahead)
+  lanes-by-ends i p c q (member.Endpoint e) (member.Router s) j = sym (to-endpoint (peer_of s q) ms (i, p) e (routes s.topology).channels j.here (wired w ms h c q i p s j.there j.into j.back))
+  lanes-by-ends i p c q (member.Endpoint e) (member.Endpoint f) j = refl
+  lanes-by-ends i p c q member.Other y j = absurd j.out
+  lanes-by-ends i p c q (member.Router r) member.Other j = absurd j.into
+  lanes-by-ends i p c q (member.Endpoint e) member.Other j = absurd j.into
+
+pub same_lanes : (w : Wiring) (ms : List Member) → IsNetwork w ms → SameLanes w ms
+same_lanes w ms h i p c q x y j = lanes-by-ends w ms h i p c q x y j
 
 pub same_channels : (w : Wiring) (ms : List Member) → IsNetwork w ms → SameChannels w ms
 same_channels w ms h i p c q x y j = by-ends w ms h i p c q x y j

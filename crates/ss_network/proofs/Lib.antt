@@ -7,3 +7,4 @@ pub mod Sames
 pub mod Joined
 pub mod Alike
 pub mod Ranges
+pub mod Decimals

@@ -29,7 +29,7 @@ either-by : (most n : ℕ) (o : Option ℕ) (t : Bool) → (o ≡ Some n → n �
 either-by most n o true h e = absurd (none-some n e)
 either-by most n o false h e = h e
 
-count-most : (most : ℕ) (s : List ℕ) (n : ℕ) → count_value most s ≡ Some n → n ≤ most
+pub count-most : (most : ℕ) (s : List ℕ) (n : ℕ) → count_value most s ≡ Some n → n ≤ most
 count-most most [] n e = absurd (none-some n e)
 count-most most (b ∷ s) n e = either-by most n (digits_value most 0 (b ∷ s)) ((b == 48) && nat_lt 0 (length s)) (digits-most most 0 (b ∷ s) n (omega arith)) e
 

@@ -1,16 +1,27 @@
 -- What routers and endpoints ask for is within what can be run.
-use Rattle.std.proofs.Common.{◌≡◌, ℕ, zero, suc, ◌+◌, ◌-◌, ◌*◌, ◌/◌, ◌%◌, ◌^◌, ◌<◌, ◌≤◌, ◌==◌, ◌&&◌, ◌||◌, min, List, [], ◌∷◌, ◌++◌, Bool, true, false, Option, Some, None, Result, Ok, Err, is_some, nat_le, if◌then◌else◌, refl, sym, ap, subst, ◌∙◌, arith}
+use Rattle.std.proofs.Common.{◌≡◌, ℕ, zero, suc, ◌+◌, ◌*◌, ◌/◌, ◌%◌, ◌^◌, ◌≤◌, ◌==◌, ◌&&◌, ◌||◌, List, [], ◌∷◌, Bool, true, false, Option, Some, None, Result, Ok, Err, is_some, nat_le, if◌then◌else◌, refl, sym, subst, arith}
 use Rattle.std.specs.Int.{div_ceil}
 use Rattle.std.proofs.lemmas.Grind.{div_ceil_times}
+use Rattle.std.specs.Prelude.{length, unwrap_or}
+use Rattle.std.specs.Option.{option_map}
+use Rattle.mr_topo.specs.Shape.{reading}
+use Rattle.mr_topo.specs.Grid.{Grid, IsGrid, is_grid, grid_by, grid_of}
+use Rattle.mr_topo.proofs.Shapes.{is_grid-gives}
+use Rattle.mr_fattree.specs.Tree.{is_tree, tree_by, tree_of, levels_of}
+use Rattle.mr_fattree.proofs.Shapes.{is_tree-gives}
+use Rattle.mr_router.specs.declared.topology.Topology.{Topology}
+use Rattle.mr_router.specs.declared.topology.Topology.TheVariants as topology
+use Rattle.ss_network.specs.declared.param.TopologyName.{TopologyName}
+use Rattle.ss_network.specs.declared.param.TopologyName.TheVariants as name
 use Rattle.ss_units.specs.Units.{flit_ps}
 use Rattle.ss_units.specs.declared.units.UnitFault.{UnitFault}
 use Rattle.ss_units.specs.declared.units.UnitFault.TheVariants.{OutOfRange}
-use Rattle.ss_graph.specs.Checks.{Check, check, first_fault}
+use Rattle.ss_graph.specs.Checks.{Check, first_fault}
 use Rattle.ss_graph.specs.Options.{the}
 use Rattle.ss_network.specs.declared.param.ParamRow.{ParamRow}
-use Rattle.ss_network.specs.Params.{Params, number, row_check, arb_check, IsNumber, FitsDefault, id_row, num_vns_row, flit_size_row, link_bw_row, xbar_bw_row, input_buf_row, output_buf_row, num_peers_row, num_messages_row, message_size_row, verbose_row}
-use Rattle.ss_network.specs.Asks.{topology_checks, pace_checks, pace_of, lasts, capacity_by, capacity_of, flits_in, buffers_checks, line_time, cross_time, or_zero, router_checks, router_of, endpoint_checks, endpoint_of}
-use Rattle.ss_network.specs.Ranges.{IsQueue, IsTime, IsFitRouter, IsFitEndpoint}
+use Rattle.ss_network.specs.Params.{Params, number, row_check, IsNumber, FitsDefault, id_row, local_ports_row, num_vns_row, flit_size_row, xbar_bw_row, input_buf_row, output_buf_row, num_peers_row, num_messages_row, message_size_row}
+use Rattle.ss_network.specs.Asks.{name_of, local_ports, shape_text, mesh_by, torus_by, tree_in, shaped, shaped_in, or_single, the_topology, topology_checks, pace_checks, pace_of, lasts, capacity_of, flits_in, buffers_checks, line_time, cross_time, or_zero, router_checks, router_of, endpoint_checks, endpoint_of}
+use Rattle.ss_network.specs.Ranges.{IsQueue, IsTime, IsBuilt, IsFitRouter, IsFitEndpoint}
 use Rattle.ss_network.proofs.Numbers.{number_fits}
 use Rattle.ss_network.proofs.Joined.{none-both, none-cons}
 
@@ -93,6 +104,64 @@ time-of flits b r o e =
     let w = lasts-is flits (flit_ps b r) e in
     subst (λ (x : Result ℕ UnitFault). IsTime (or_zero x)) (sym w.1) (flit-time b r w.0 o w.1)
 
+-- topologies
+
+grid-built : (around : Grid → Topology) (n : ℕ) (o : Option (List ℕ)) → ((g : Grid) → IsGrid g → 1 ≤ g.local_ports → IsBuilt (around g)) → 1 ≤ n → is_some (option_map around (grid_by n o)) ≡ true → IsBuilt (or_single (option_map around (grid_by n o)))
+grid-built around n None f h e = absurd (grind (arith, e))
+grid-built around n (Some ks) f h e = made (is_grid ks n) refl e
+  where
+    made : (b : Bool) → is_grid ks n ≡ b → is_some (option_map around (if b then Some (record { sizes = ks; local_ports = n }) else None)) ≡ true → IsBuilt (or_single (option_map around (if b then Some (record { sizes = ks; local_ports = n }) else None)))
+    made true q e = f _ (is_grid-gives ks n q) h
+    made false q e = absurd (grind (arith, e))
+
+tree-built : (o : Option (List ℕ)) → is_some (option_map topology.FatTree (tree_by o)) ≡ true → IsBuilt (or_single (option_map topology.FatTree (tree_by o)))
+tree-built None e = absurd (grind (arith, e))
+tree-built (Some ns) e = made ((length ns % 2 == 1) && is_tree (levels_of ns)) refl e
+  where
+    right-of : (a b : Bool) → (a && b) ≡ true → b ≡ true
+    right-of true b e = e
+    right-of false b e = absurd (grind (arith, e))
+
+    made : (b : Bool) → ((length ns % 2 == 1) && is_tree (levels_of ns)) ≡ b → is_some (option_map topology.FatTree (if b then Some (levels_of ns) else None)) ≡ true → IsBuilt (or_single (option_map topology.FatTree (if b then Some (levels_of ns) else None)))
+    made true q e = is_tree-gives (levels_of ns) (right-of (length ns % 2 == 1) (is_tree (levels_of ns)) q)
+    made false q e = absurd (grind (arith, e))
+
+mesh-built : (n : ℕ) (o : Option (List ℕ)) → 1 ≤ n → is_some (mesh_by n o) ≡ true → IsBuilt (or_single (mesh_by n o))
+unfolding grid_of
+mesh-built n None h e = absurd (grind (arith, e))
+mesh-built n (Some s) h e = grid-built topology.Mesh n (reading 120 120 0 s) (λ g a b. (a, b)) h e
+
+torus-built : (n : ℕ) (o : Option (List ℕ)) → 1 ≤ n → is_some (torus_by n o) ≡ true → IsBuilt (or_single (torus_by n o))
+unfolding grid_of
+torus-built n None h e = absurd (grind (arith, e))
+torus-built n (Some s) h e = grid-built topology.Torus n (reading 120 120 0 s) (λ g a b. (a, b)) h e
+
+tree-in-built : (o : Option (List ℕ)) → is_some (tree_in o) ≡ true → IsBuilt (or_single (tree_in o))
+unfolding tree_of
+tree-in-built None e = absurd (grind (arith, e))
+tree-in-built (Some s) e = tree-built (reading 44 58 0 s) e
+
+shaped-built : (ps : Params) (n : TopologyName) → (1 ≤ local_ports ps) × (local_ports ps ≤ 255) → is_some (shaped ps n) ≡ true → IsBuilt (or_single (shaped ps n))
+shaped-built ps name.Single h e = h
+shaped-built ps name.Mesh h e = mesh-built (local_ports ps) (shape_text ps) h.0 e
+shaped-built ps name.Torus h e = torus-built (local_ports ps) (shape_text ps) h.0 e
+shaped-built ps name.FatTree h e = tree-in-built (shape_text ps) e
+
+few-local : (o : Option ℕ) → ((n : ℕ) → o ≡ Some n → (1 ≤ n) × (n ≤ 255)) → (1 ≤ unwrap_or o 1) × (unwrap_or o 1 ≤ 255)
+few-local None h = (omega arith, omega arith)
+few-local (Some n) h = h n refl
+
+named-built : (ps : Params) (o : Option TopologyName) → (1 ≤ local_ports ps) × (local_ports ps ≤ 255) → is_some (shaped_in ps o) ≡ true → IsBuilt (or_single (shaped_in ps o))
+named-built ps None h e = absurd (grind (arith, e))
+named-built ps (Some n) h e = shaped-built ps n h e
+
+topology-built : (i : ℕ) (ps : Params) → first_fault (topology_checks i ps) ≡ None → IsBuilt (the_topology ps)
+unfolding topology_checks
+topology-built i ps e =
+    let a = none-cons _ _ _ e in
+    let b = none-cons _ _ _ a.1 in
+    named-built ps (name_of ps) (few-local (number ps local_ports_row) (λ n q. number_fits ps local_ports_row n (omega arith, omega arith) q)) b.0
+
 -- the kinds
 
 record Read (i : ℕ) (ps : Params) (t p : Result ℕ UnitFault) : Type 0 where
@@ -126,7 +195,10 @@ router_fits i ps e =
     let g = none-both (buffers_checks i (pace_of ps).flit_bits (line_time ps) (cross_time ps) ps) _ d.1 in
     let p = pace-read i ps c.0 in
     let q = buffers-read i ps (line_time ps) (cross_time ps) g.0 in
+    let z = row-fits i ps id_row _ tt a.0 in
     record {
+      id = omega (arith, z.1);
+      topology = topology-built i ps b.0;
       networks = p.networks.0;
       few_networks = p.networks.1;
       time = time-of _ (pace_of ps).flit_bits (pace_of ps).link p.flit q.input.time;
@@ -149,10 +221,12 @@ endpoint_fits i ps e =
     let m = row-fits i ps message_size_row _ (omega arith, omega arith) l.1 in
     let p = pace-read i ps b.0 in
     let q = buffers-read i ps (line_time ps) (line_time ps) g.0 in
+    let z = row-fits i ps id_row _ tt a.0 in
     record {
+      id = omega (arith, z.1);
       peers = n.0;
       few_peers = n.1;
-      messages = (row-fits i ps num_messages_row _ (omega arith, omega arith) k.1).1;
+      work = (row-fits i ps num_messages_row _ (omega arith, omega arith) k.1).1;
       flits = ceil-some (the (number ps message_size_row)) (pace_of ps).flit_bits m.0 p.flit;
       networks = p.networks.0;
       few_networks = p.networks.1;

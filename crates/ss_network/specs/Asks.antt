@@ -10,6 +10,7 @@ use Rattle.mr_topo.specs.Grid.{grid_of}
 use Rattle.mr_fattree.specs.Tree.{tree_of}
 use Rattle.ss_network.specs.declared.ask.RouterAsk.{RouterAsk}
 use Rattle.ss_network.specs.declared.ask.EndpointAsk.{EndpointAsk}
+use Rattle.ss_network.specs.declared.ask.Work.TheVariants as work
 use Rattle.ss_network.specs.declared.ask.Pace.{Pace}
 use Rattle.ss_network.specs.declared.ask.Buffers.{Buffers}
 use Rattle.mr_router.specs.declared.topology.Topology.{Topology}
@@ -163,12 +164,11 @@ abbrev pub endpoint_of : Params → EndpointAsk
 endpoint_of ps = record {
   id = the (number ps id_row);
   peers = the (number ps num_peers_row);
-  messages = the (number ps num_messages_row);
-  message_flits = div_ceil (the (number ps message_size_row)) (pace_of ps).flit_bits;
+  flits = div_ceil (the (number ps message_size_row)) (pace_of ps).flit_bits;
+  work = work.Messages (the (number ps num_messages_row)) (the (number ps verbose_row) == 1);
   vns = (pace_of ps).vns;
   flit_bits = (pace_of ps).flit_bits;
   flit_time = or_zero (line_time ps);
   input_flits = (buffers_of (pace_of ps).flit_bits (line_time ps) (line_time ps) ps).input;
   output_flits = (buffers_of (pace_of ps).flit_bits (line_time ps) (line_time ps) ps).output;
-  verbose = the (number ps verbose_row) == 1;
 }

@@ -7,7 +7,7 @@ use Rattle.ss_network.specs.declared.ask.EndpointAsk.{EndpointAsk}
 use Rattle.ss_network.specs.declared.member.Member.{Member}
 use Rattle.ss_network.specs.declared.member.Member.TheVariants as member
 use Rattle.mr_router.specs.Network.{routes}
-use Rattle.ss_network.specs.Network.{network_checks, first_router, ports_of, peer_of, end_of, is_peer, is_home_of, channels_of, capacity, least}
+use Rattle.ss_network.specs.Network.{network_checks, first_router, ports_of, peer_of, end_of, is_peer, is_home_of, channels_of, lanes_of, capacity, least, fits_pattern}
 
 abbrev pub IsNetwork : Wiring → List Member → Type 0
 IsNetwork w ms = first_fault (network_checks w ms) ≡ None
@@ -39,6 +39,10 @@ ComesHome w ms = (i : ℕ) (e : EndpointAsk) → slice_get ms i ≡ Some (member
 abbrev pub SameChannels : Wiring → List Member → Type 0
 SameChannels w ms = (i p c q : ℕ) (x y : Member) → Joins w ms i p c q x y → channels_of x p ≡ channels_of y q
 
+-- and as many of a virtual network
+abbrev pub SameLanes : Wiring → List Member → Type 0
+SameLanes w ms = (i p c q : ℕ) (x y : Member) → Joins w ms i p c q x y → lanes_of x p ≡ lanes_of y q
+
 -- a router is as the first one but for its number and its queues, and the topology has it
 pub record IsAlike (f r : RouterAsk) : Type 0 where
   pub topology : r.topology ≡ f.topology
@@ -49,13 +53,14 @@ pub record IsAlike (f r : RouterAsk) : Type 0 where
 abbrev pub AllAlike : List Member → Type 0
 AllAlike ms = (i : ℕ) (r : RouterAsk) → slice_get ms i ≡ Some (member.Router r) → (f : RouterAsk) × (first_router ms ≡ Some f) × IsAlike f r
 
--- an endpoint fits the routers, and its messages the least queue
+-- an endpoint fits the routers, its messages the least queue, and its pattern the number of endpoints
 pub record IsGuest (ms : List Member) (f : RouterAsk) (e : EndpointAsk) : Type 0 where
   pub id : e.id < (routes f.topology).endpoints
   pub peers : e.peers ≡ (routes f.topology).endpoints
   pub vns : e.vns ≡ f.vns
   pub flit : e.flit_bits ≡ f.flit_bits
-  pub message : e.message_flits ≤ least ms
+  pub size : e.flits ≤ least ms
+  pub pattern : fits_pattern e.work e.peers ≡ true
 
 abbrev pub AllGuests : List Member → Type 0
 AllGuests ms = (i : ℕ) (f : RouterAsk) (e : EndpointAsk) → first_router ms ≡ Some f → slice_get ms i ≡ Some (member.Endpoint e) → IsGuest ms f e

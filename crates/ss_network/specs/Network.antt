@@ -9,6 +9,14 @@ use Rattle.mr_flow.specs.declared.Peer.TheVariants as peer
 use Rattle.mr_fattree.specs.declared.Level.{Level}
 use Rattle.ss_network.specs.declared.ask.RouterAsk.{RouterAsk}
 use Rattle.ss_network.specs.declared.ask.EndpointAsk.{EndpointAsk}
+use Rattle.ss_network.specs.declared.ask.Work.{Work}
+use Rattle.ss_network.specs.declared.ask.Work.TheVariants as work
+use Rattle.ss_network.specs.declared.param.ParamName.{ParamName}
+use Rattle.ss_network.specs.declared.param.ParamName.TheVariants as param
+use Rattle.mr_nic.specs.declared.pattern.Pattern.{Pattern}
+use Rattle.mr_nic.specs.declared.pattern.Pattern.TheVariants as pattern
+use Rattle.mr_nic.specs.Pattern.{root}
+use Rattle.ss_network.specs.Params.{param_text}
 use Rattle.ss_network.specs.declared.member.Member.{Member}
 use Rattle.ss_network.specs.declared.member.Member.TheVariants as member
 use Rattle.mr_router.specs.declared.topology.Topology.{Topology}
@@ -122,14 +130,32 @@ routers_checks f ms = below_checks (length ms) (λ i. router_by f (router_ids (t
 
 -- ---- endpoints
 
--- an endpoint is new, and fits the routers; its messages fit the least queue
+-- which parameter tells how large a message or a packet is
+abbrev pub size_name : Work → ParamName
+size_name (work.Messages count verbose) = param.MessageSize
+size_name (work.Packets count pattern vn seed hot) = param.PacketSize
+
+-- rows and columns can be exchanged where the endpoints are a square
+abbrev pub has_shape : Pattern → ℕ → Bool
+has_shape pattern.Uniform n = true
+has_shape pattern.Complement n = true
+has_shape pattern.Transpose n = root n * root n == n
+has_shape pattern.Hotspot n = true
+has_shape pattern.Tornado n = true
+
+abbrev pub fits_pattern : Work → ℕ → Bool
+fits_pattern (work.Messages count verbose) n = true
+fits_pattern (work.Packets count pattern vn seed hot) n = has_shape pattern n
+
+-- an endpoint is new, and fits the routers; its messages fit the least queue, and its pattern is there for so many endpoints
 unfoldable pub fit_checks : RouterAsk → List ℕ → ℕ → ℕ → EndpointAsk → List (Check MakeFault)
 fit_checks f ids most i e =
     check (is_new (routes f.topology).endpoints ids e.id) (fault.Param (param_place i (codes "id")))
     ∷ check ((routes f.topology).endpoints == e.peers) (fault.Param (param_place i (codes "num_peers")))
     ∷ check (f.vns == e.vns) (fault.Param (param_place i (codes "num_vns")))
     ∷ check (f.flit_bits == e.flit_bits) (fault.Param (param_place i (codes "flit_size")))
-    ∷ check (nat_le e.message_flits most) (fault.Param (param_place i (codes "message_size")))
+    ∷ check (nat_le e.flits most) (fault.Param (param_place i (param_text (size_name e.work))))
+    ∷ check (fits_pattern e.work (routes f.topology).endpoints) (fault.Param (param_place i (codes "pattern")))
     ∷ []
 
 abbrev pub endpoint_by : RouterAsk → List ℕ → ℕ → ℕ → Option Member → List (Check MakeFault)
@@ -253,6 +279,12 @@ abbrev pub channels_of : Member → ℕ → ℕ
 channels_of (member.Router r) p = if nat_lt p (ports_of r) then r.vns * lanes_to (peer_of r p) (routes r.topology).channels else 0
 channels_of (member.Endpoint e) p = if p == 0 then e.vns else 0
 channels_of member.Other p = 0
+
+-- how many channels of a virtual network it has
+abbrev pub lanes_of : Member → ℕ → ℕ
+lanes_of (member.Router r) p = lanes_to (peer_of r p) (routes r.topology).channels
+lanes_of (member.Endpoint e) p = 1
+lanes_of member.Other p = 1
 
 -- what an input queue of a member holds
 abbrev pub input_of : Member → ℕ

@@ -37,6 +37,12 @@ param_text param.NumPeers = codes "num_peers"
 param_text param.NumMessages = codes "num_messages"
 param_text param.MessageSize = codes "message_size"
 param_text param.Verbose = codes "verbose"
+param_text param.Pattern = codes "pattern"
+param_text param.Packets = codes "packets"
+param_text param.PacketSize = codes "packet_size"
+param_text param.Vn = codes "vn"
+param_text param.Seed = codes "seed"
+param_text param.Hot = codes "hot"
 
 -- ---- rows
 

@@ -17,6 +17,7 @@ use crate::param::{
 use mr_arb::ArbKind;
 use mr_fattree::FatTree;
 use mr_flow::ShapeFault;
+use mr_nic::Pattern;
 use mr_router::Topology;
 use mr_topo::{Mesh, Single, Torus};
 use ss_units::{Text, UnitFault, flit_time};
@@ -36,19 +37,37 @@ pub struct RouterAsk {
     pub arb: ArbKind,
 }
 
+/// What an endpoint sends.
+#[derive(Clone, Copy, Debug, PartialEq, Eq)]
+pub enum Work {
+    /// So many messages to each of the others, and whether it tells that it is done.
+    Messages {
+        count: u32,
+        verbose: bool,
+    },
+    /// So many packets by a pattern, on one virtual network.
+    Packets {
+        count: u32,
+        pattern: Pattern,
+        vn: u8,
+        seed: u64,
+        hot: u32,
+    },
+}
+
 /// What an endpoint asks for. Times are in picoseconds.
 #[derive(Drop)]
 pub struct EndpointAsk {
     pub id: u32,
     pub peers: u32,
-    pub messages: u32,
-    pub message_flits: u64,
+    /// The flits of each message or packet.
+    pub flits: u64,
+    pub work: Work,
     pub vns: u8,
     pub flit_bits: u64,
     pub flit_time: u64,
     pub input_flits: u32,
     pub output_flits: u32,
-    pub verbose: bool,
 }
 
 /// The virtual networks, the bits of a flit, and the bits that a line takes in a second.
@@ -294,13 +313,15 @@ pub fn endpoint_at(
     Ok(EndpointAsk {
         id: id as u32,
         peers: peers as u32,
-        messages: messages as u32,
-        message_flits: message.div_ceil(pace.flit_bits),
+        flits: message.div_ceil(pace.flit_bits),
+        work: Work::Messages {
+            count: messages as u32,
+            verbose: verbose == 1,
+        },
         vns: pace.vns,
         flit_bits: pace.flit_bits,
         flit_time: time_or_zero(time),
         input_flits: buffers.input,
         output_flits: buffers.output,
-        verbose: verbose == 1,
     })
 }

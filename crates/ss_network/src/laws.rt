@@ -7,7 +7,7 @@ ghost use Rattle.ss_network.specs.Asks.{router_checks, router_of, endpoint_check
 ghost use Rattle.ss_network.specs.Ranges.{IsFitRouter, IsFitEndpoint};
 ghost use Rattle.ss_model.specs.Wiring.{Wiring};
 ghost use Rattle.ss_network.specs.declared.member.Member.{Member};
-ghost use Rattle.ss_network.specs.Joined.{IsNetwork, LeadsWell, ComesHome, SameChannels, AllAlike, AllGuests, OneOfEach, LeastOfAll};
+ghost use Rattle.ss_network.specs.Joined.{IsNetwork, LeadsWell, ComesHome, SameChannels, SameLanes, AllAlike, AllGuests, OneOfEach, LeastOfAll};
 
 /// A router's port that leads somewhere is linked to its peer, and one that leads nowhere isn't linked.
 #[tactic(auto, using(crate::proofs::Joined::leads_well))]
@@ -21,10 +21,11 @@ pub fn endpoints_are_at_their_routers()
     ensures { (w : Wiring) (ms : List Member) → IsNetwork w ms → ComesHome w ms }
 {}
 
-/// Both ends of a line have the same channels.
-#[tactic(auto, using(crate::proofs::Joined::same_channels))]
+/// Both ends of a line have the same channels, and as many of each virtual network.
+#[tactic(auto, using(crate::proofs::Joined::same_channels, crate::proofs::Joined::same_lanes))]
 pub fn lines_have_equal_channels()
-    ensures { (w : Wiring) (ms : List Member) → IsNetwork w ms → SameChannels w ms }
+    ensures lanes { (w : Wiring) (ms : List Member) → IsNetwork w ms → SameLanes w ms }
+    ensures channels { (w : Wiring) (ms : List Member) → IsNetwork w ms → SameChannels w ms }
 {}
 
 /// Each router is as the first one, and the topology has its number.

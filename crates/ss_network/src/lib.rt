@@ -7,11 +7,12 @@ mod fault;
 mod laws;
 mod links;
 mod member;
+mod names;
 mod network;
 mod param;
 mod place;
 
-pub use ask::{Buffers, EndpointAsk, Pace, RouterAsk, endpoint_at, router_at};
+pub use ask::{Buffers, EndpointAsk, Pace, RouterAsk, Work, endpoint_at, router_at};
 pub use fault::MakeFault;
 pub use laws::{
     endpoints_are_at_their_routers, endpoints_fit_the_routers, lines_have_equal_channels,
@@ -22,3 +23,4 @@ pub use links::end_of;
 pub use member::Member;
 pub use mr_router::Topology;
 pub use network::{first_router, is_network, least};
+pub use place::{item_place, push_index};

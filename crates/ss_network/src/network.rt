@@ -6,15 +6,16 @@ ghost use Rattle.ss_graph.specs.Checks.{Passes, first_fault};
 ghost use Rattle.ss_network.specs.Faults.{is_memory, param_place};
 ghost use Rattle.ss_network.specs.Params.{param_text};
 ghost use Rattle.mr_router.specs.Network.{routes};
-ghost use Rattle.ss_network.specs.Network.{first_router as first_of, capacity as capacity_of, least as least_of, router_ids, endpoint_ids, is_new as is_new_among, same_kind as same_kinds, same_sizes as are_same_sizes, same_levels as are_same_levels, same_shape as same_shapes, same_local as same_locals, same_checks, router_by, routers_checks, fit_checks, endpoint_by, endpoints_checks, member_checks, network_checks};
+ghost use Rattle.ss_network.specs.Network.{first_router as first_of, capacity as capacity_of, least as least_of, router_ids, endpoint_ids, is_new as is_new_among, same_kind as same_kinds, same_sizes as are_same_sizes, same_levels as are_same_levels, same_shape as same_shapes, same_local as same_locals, same_checks, router_by, routers_checks, size_name as size_names, has_shape as has_shapes, fits_pattern as fits_patterns, fit_checks, endpoint_by, endpoints_checks, member_checks, network_checks};
 ghost use Rattle.ss_network.specs.Marks.{AreMarked};
 
-use crate::ask::{EndpointAsk, RouterAsk};
+use crate::ask::{EndpointAsk, RouterAsk, Work};
 use crate::fault::MakeFault;
 use crate::links::{homes_fit, ports_fit};
 use crate::member::Member;
 use crate::param::{ParamName, place_of};
 use mr_fattree::Level;
+use mr_nic::Pattern;
 use mr_router::Topology;
 use ss_element::Wires;
 use std::alloc::Global;
@@ -169,6 +170,39 @@ fn router_fault(
     }
 }
 
+/// Which parameter tells how large a message or a packet is.
+fn size_name(work: Work) -> ParamName
+    ensures { result ≡ size_names work }
+{
+    match work {
+        Work::Messages { .. } => ParamName::MessageSize,
+        Work::Packets { .. } => ParamName::PacketSize,
+    }
+}
+
+/// Whether a pattern is there for so many endpoints: rows and columns can be exchanged where they are a square.
+#[tactic(auto, using(mr_nic::proofs::Roots::root_is))]
+fn has_shape(pattern: Pattern, endpoints: u32) -> bool
+    ensures { result ≡ has_shapes pattern endpoints }
+{
+    match pattern {
+        Pattern::Transpose => {
+            let side = endpoints.isqrt();
+            side * side == endpoints
+        }
+        Pattern::Uniform | Pattern::Complement | Pattern::Hotspot | Pattern::Tornado => true,
+    }
+}
+
+fn fits_pattern(work: Work, endpoints: u32) -> bool
+    ensures { result ≡ fits_patterns work endpoints }
+{
+    match work {
+        Work::Messages { .. } => true,
+        Work::Packets { pattern, .. } => has_shape(pattern, endpoints),
+    }
+}
+
 /// The first parameter by which an endpoint doesn't fit the routers, or isn't new.
 #[tactic(auto, unfolding(ss_graph::specs::Checks::first_fault, crate::specs::Network::fit_checks), using(crate::proofs::Marked::new_is))]
 fn endpoint_fault(
@@ -193,8 +227,10 @@ fn endpoint_fault(
         Some(ParamName::NumVns)
     } else if first.flit_bits != endpoint.flit_bits {
         Some(ParamName::FlitSize)
-    } else if endpoint.message_flits > most as u64 {
-        Some(ParamName::MessageSize)
+    } else if endpoint.flits > most as u64 {
+        Some(size_name(endpoint.work))
+    } else if !fits_pattern(endpoint.work, first.topology.endpoints()) {
+        Some(ParamName::Pattern)
     } else {
         None
     }
@@ -288,7 +324,7 @@ fn members_fit(alloc: Global, members: &[Member]) -> Result<(), MakeFault>
 
 /// Whether the routers and endpoints of a graph are one network, or the first check that fails. The checks in order: each router
 /// is as the first one but for its number, which is one of the topology's and new; each endpoint's number is too, it knows the number of
-/// endpoints, and its messages fit the least queue; each port of a router that leads somewhere is linked, and linked to its peer;
+/// endpoints, its messages fit the least queue, and its pattern is there for so many; each port of a router that leads somewhere is linked, and linked to its peer;
 /// each endpoint is linked to its router. The checks and their order are this project's own.
 #[tactic(auto, using(ss_graph::proofs::Judging::first_fault_append), unfolding(crate::specs::Network::network_checks))]
 pub fn is_network(alloc: Global, members: &[Member], wires: &Wires) -> Result<(), MakeFault>

@@ -31,6 +31,12 @@ pub enum ParamName {
     NumMessages,
     MessageSize,
     Verbose,
+    Pattern,
+    Packets,
+    PacketSize,
+    Vn,
+    Seed,
+    Hot,
 }
 
 /// What the text of a parameter writes.
@@ -178,6 +184,12 @@ pub fn param_name(name: ParamName) -> &'static str
         ParamName::NumMessages => "num_messages",
         ParamName::MessageSize => "message_size",
         ParamName::Verbose => "verbose",
+        ParamName::Pattern => "pattern",
+        ParamName::Packets => "packets",
+        ParamName::PacketSize => "packet_size",
+        ParamName::Vn => "vn",
+        ParamName::Seed => "seed",
+        ParamName::Hot => "hot",
     }
 }
 
@@ -199,7 +211,7 @@ fn digits_of(text: &[u8], most: u64) -> Option<u64>
     Some(value)
 }
 
-fn count_of(text: &[u8], most: u64) -> Option<u64>
+pub fn count_of(text: &[u8], most: u64) -> Option<u64>
     ensures { result ≡ count_value most text.now }
 {
     match text {

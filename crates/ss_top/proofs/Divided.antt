@@ -16,9 +16,9 @@ use Rattle.ss_part.specs.Assigned.{assigned}
 use Rattle.ss_library.specs.declared.kinds.Any.{Any}
 use Rattle.ss_library.specs.Kinds.{any_kind, any_safe}
 use Rattle.ss_library.specs.Laws.{any_world}
-use Rattle.ss_library.specs.Make.{model_of, wiring_of}
+use Rattle.ss_library.specs.Make.{model_of, wiring_of, members_of}
 use Rattle.ss_library.specs.Meaning.{any_meaning}
-use Rattle.ss_library.proofs.Opening.{made_count}
+use Rattle.ss_library.proofs.Begun.{begun_count}
 use Rattle.ss_cmd.specs.declared.RunOptions.{RunOptions}
 use Rattle.ss_run.specs.declared.RunSpec.{RunSpec}
 use Rattle.ss_run.specs.declared.Origin.TheVariants as origin
@@ -106,7 +106,7 @@ spec_of g asked d list stop exit l s x = λ i. record { graph = g; partition = r
 pub run_fits : (g : Graph) (asked : Option ℕ) (parts : ℕ) (list : List ℕ) → IsFit g → any_safe (model_of g).wires 0 (opening (model_of g).elements) → stop_by asked g.options.stop_at ≤ 2 ^ 62
     → length list ≡ length g.components → 1 ≤ parts → AreBelow list parts → IsFitting any_kind any_meaning (run_of g asked parts list)
 run_fits g asked parts list fit safe early whole some below = record {
-  accepted = record { fit = fit; whole = sym (made_count (wiring_of g) 0 g.components); safe = safe };
+  accepted = record { fit = fit; whole = sym (begun_count (wiring_of g) (members_of g) 0 g.components); safe = safe };
   whole = whole;
   some = some;
   below = below;

@@ -140,6 +140,7 @@ module _ (r : RunSpec) (f : IsFitting any_kind any_meaning r) (windows : ℕ) (w
 
   accepted_whole : (g : Graph) (o : Origin) → any_accepts g o → length (any_opening g o).state.components ≡ length g.components
   accepted_whole g origin.Start m = m.whole
+  accepted_whole g (origin.Saved bytes) m = absurd m
 
   -- the lists of a run's workers after its last window are those of its parts
   pub parts_are : (n : Has r windows) → AreParts r.partition.list lists n.last.whole.state

@@ -12,9 +12,9 @@ use Rattle.ss_graph.specs.Faults.{is_memory}
 use Rattle.ss_graph.specs.Judge.{text_checks, graph_of}
 use Rattle.ss_library.specs.declared.kinds.Any.{Any}
 use Rattle.mr_flow.specs.declared.Load.{Load}
-use Rattle.ss_library.specs.declared.fault.MakeFault.{MakeFault}
+use Rattle.ss_network.specs.declared.fault.MakeFault.{MakeFault}
 use Rattle.ss_library.specs.Make.{Made, make_checks, model_of}
-use Rattle.ss_library.specs.Make as making
+use Rattle.ss_network.specs.Faults as making
 use Rattle.ss_serial.specs.Serial.{Standing, standing, Ran}
 use Rattle.ss_top.specs.Judge.{Judged, not_text, at_fault, past_limit, accepted, judge, judged_made, refused_by, unmade_by, elements, Prints}
 use Rattle.ss_top.specs.Simulate.{judged_by, IsSaid, IsRefusal, IsVerdict, HasRun, texts_by, puts_by, IsDivided, IsUndivided, UndividedBy, is_part_memory, RefusedBy, UnmadeBy}
@@ -23,7 +23,7 @@ use Rattle.ss_top.specs.declared.refusal.Refusal.{Refusal}
 use Rattle.ss_top.specs.declared.simulate.Verdict.{Verdict}
 use Rattle.ss_top.specs.declared.simulate.Verdict.TheVariants as verdict
 use Rattle.ss_graph.specs.declared.fault.GraphFault.TheVariants as reading
-use Rattle.ss_library.specs.declared.fault.MakeFault.TheVariants as making_fault
+use Rattle.ss_network.specs.declared.fault.MakeFault.TheVariants as making_fault
 use Rattle.ss_cmd.specs.declared.Plan.{Plan}
 use Rattle.ss_cmd.specs.declared.Plan.TheVariants as plan
 use Rattle.ss_cmd.specs.declared.RunOptions.{RunOptions}
@@ -85,7 +85,10 @@ never_made : (f : MakeFault) → unmade_by f ≡ accepted → ⊥
 never_made (making_fault.UnknownType p) e = cc
 never_made (making_fault.UnknownPort p) e = cc
 never_made (making_fault.Param p) e = cc
+never_made (making_fault.Protocol p) e = cc
 never_made (making_fault.PortUnlinked p) e = cc
+never_made (making_fault.Miswired p) e = cc
+never_made (making_fault.Limit k n) e = cc
 never_made making_fault.NoMemory e = cc
 
 refused_at : (p : Plan) (g : Graph) (i j : Judged) → (i ≡ accepted → ⊥) → j ≡ i → AnswersJudged p g j (refused_as (graph_name p) i)

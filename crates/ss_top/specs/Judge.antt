@@ -11,8 +11,8 @@ use Rattle.ss_graph.specs.Checks.{first_fault}
 use Rattle.ss_graph.specs.Judge.{text_checks, graph_of}
 use Rattle.ss_library.specs.declared.kinds.Any.{Any}
 use Rattle.mr_flow.specs.declared.Load.{Load}
-use Rattle.ss_library.specs.declared.fault.MakeFault.{MakeFault}
-use Rattle.ss_library.specs.declared.fault.MakeFault.TheVariants as making
+use Rattle.ss_network.specs.declared.fault.MakeFault.{MakeFault}
+use Rattle.ss_network.specs.declared.fault.MakeFault.TheVariants as making
 use Rattle.ss_library.specs.Kinds.{any_kind}
 use Rattle.ss_library.specs.Make.{Made, make_checks, model_of}
 use Rattle.ss_top.specs.declared.refusal.Fault.{Fault}
@@ -30,7 +30,10 @@ abbrev pub unmade_by : MakeFault → Judged
 unmade_by (making.UnknownType p) = at_fault fault.UnknownType p
 unmade_by (making.UnknownPort p) = at_fault fault.UnknownPort p
 unmade_by (making.Param p) = at_fault fault.Param p
+unmade_by (making.Protocol p) = at_fault fault.Protocol p
 unmade_by (making.PortUnlinked p) = at_fault fault.PortUnlinked p
+unmade_by (making.Miswired p) = at_fault fault.Miswired p
+unmade_by (making.Limit k n) = past_limit k n
 unmade_by making.NoMemory = not_text
 
 abbrev pub judged_made : Option MakeFault → Judged

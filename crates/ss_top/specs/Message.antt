@@ -31,7 +31,9 @@ fault_text fault.Latency = codes "Latency "
 fault_text fault.UnknownType = codes "UnknownType "
 fault_text fault.UnknownPort = codes "UnknownPort "
 fault_text fault.Param = codes "Param "
+fault_text fault.Protocol = codes "Protocol "
 fault_text fault.PortUnlinked = codes "PortUnlinked "
+fault_text fault.Miswired = codes "Miswired "
 fault_text fault.BadThread = codes "BadThread "
 
 -- the name of a counted quantity, and a space

@@ -32,7 +32,9 @@ pub enum Fault {
     UnknownType,
     UnknownPort,
     Param,
+    Protocol,
     PortUnlinked,
+    Miswired,
     BadThread,
 }
 
@@ -79,7 +81,10 @@ pub fn unmade(fault: MakeFault) -> Refusal
         MakeFault::UnknownType(place) => graph(Fault::UnknownType, place),
         MakeFault::UnknownPort(place) => graph(Fault::UnknownPort, place),
         MakeFault::Param(place) => graph(Fault::Param, place),
+        MakeFault::Protocol(place) => graph(Fault::Protocol, place),
         MakeFault::PortUnlinked(place) => graph(Fault::PortUnlinked, place),
+        MakeFault::Miswired(place) => graph(Fault::Miswired, place),
+        MakeFault::Limit(kind, number) => Refusal::Limit { kind, number },
         MakeFault::NoMemory => Refusal::NoMemory,
     }
 }
@@ -130,7 +135,9 @@ fn text_of_fault(fault: Fault) -> &'static [u8]
         Fault::UnknownType => b"UnknownType ",
         Fault::UnknownPort => b"UnknownPort ",
         Fault::Param => b"Param ",
+        Fault::Protocol => b"Protocol ",
         Fault::PortUnlinked => b"PortUnlinked ",
+        Fault::Miswired => b"Miswired ",
         Fault::BadThread => b"BadThread ",
     }
 }

@@ -17,6 +17,10 @@ const PING_PONG: &str =
 const PONGS: &str =
     "ping: pong 1 at 2000 ps\nping: pong 2 at 4000 ps\nping: pong 3 at 6000 ps\nSimulation is complete, simulated time: 1000000 ps\n";
 
+/// A pinger and an echo, joined by a link that takes no time on one side.
+const NO_LATENCY: &str =
+    "{\"components\":[{\"name\":\"ping\",\"type\":\"core.pinger\"},{\"name\":\"echo\",\"type\":\"core.echo\"}],\"links\":[{\"name\":\"wire\",\"left\":{\"component\":\"ping\",\"port\":\"port\",\"latency\":\"0ns\"},\"right\":{\"component\":\"echo\",\"port\":\"port\",\"latency\":\"1ns\"}}]}";
+
 /// Four tickers in a ring, the first of which names thread 5.
 const RING: &str =
     "{\"components\":[{\"name\":\"a\",\"type\":\"core.ticker\",\"partition\":{\"thread\":5}},{\"name\":\"b\",\"type\":\"core.ticker\"},{\"name\":\"c\",\"type\":\"core.ticker\"},{\"name\":\"d\",\"type\":\"core.ticker\"}],\"links\":[{\"name\":\"w\",\"left\":{\"component\":\"a\",\"port\":\"out\",\"latency\":\"1ps\"},\"right\":{\"component\":\"b\",\"port\":\"in0\",\"latency\":\"1ps\"}},{\"name\":\"x\",\"left\":{\"component\":\"b\",\"port\":\"out\",\"latency\":\"5ps\"},\"right\":{\"component\":\"c\",\"port\":\"in0\",\"latency\":\"5ps\"}},{\"name\":\"y\",\"left\":{\"component\":\"c\",\"port\":\"out\",\"latency\":\"1ps\"},\"right\":{\"component\":\"d\",\"port\":\"in0\",\"latency\":\"1ps\"}},{\"name\":\"z\",\"left\":{\"component\":\"d\",\"port\":\"out\",\"latency\":\"9ps\"},\"right\":{\"component\":\"a\",\"port\":\"in0\",\"latency\":\"9ps\"}}]}";
@@ -96,12 +100,56 @@ fn case_of<'a>(
     }
 }
 
+/// Runs a case in one, two and three parts, and on one, two and four threads. A graph that can't be run in so many parts is
+/// refused for that, unless it is refused before.
+fn check_spread<R: Abort + Threads + Sync>(
+    rt: &R,
+    alloc: Global,
+    case: &Case,
+    most_parts: u32,
+    fails: &[u64],
+) -> Result<(), AllocError> {
+    for (words, parts) in [
+        ("--parts=1", 1),
+        ("--parts=2", 2),
+        ("--parts=3", 3),
+        ("--threads=1", 1),
+        ("--threads=2", 1),
+        ("--threads=4", 1),
+    ] {
+        let line = format!(in alloc; "{} {}", case.line, words)?;
+        let limit = format!(in alloc; "sst: limit: parts {}\n", parts)?;
+        let fails = Vec::from_slice(alloc, fails)?;
+        if parts > most_parts {
+            let refused = Case {
+                line: line.as_str(),
+                graph: case.graph,
+                most: case.most,
+                status: Status::Limit,
+                out: "",
+                err: limit.as_str(),
+            };
+            check(rt, alloc, &refused, fails)?;
+        } else {
+            let spread = Case {
+                line: line.as_str(),
+                graph: case.graph,
+                most: case.most,
+                status: case.status,
+                out: case.out,
+                err: case.err,
+            };
+            check(rt, alloc, &spread, fails)?;
+        }
+    }
+    Ok(())
+}
+
 #[test]
 fn does_what_lines_ask(rt: HostRuntime) -> Result<(), Fail> {
     let alloc = rt.alloc();
     for (line, graph, out) in [
         ("run g1.json", PING_PONG, PONGS),
-        ("run g1.json --threads=2", PING_PONG, PONGS),
         ("run g1.json --threads=4 --exchange=queue", PING_PONG, PONGS),
         (
             "run g1.json --parts=2 --partitioner=roundrobin",
@@ -109,29 +157,9 @@ fn does_what_lines_ask(rt: HostRuntime) -> Result<(), Fail> {
             PONGS,
         ),
         (
-            "run g1.json --threads=4",
-            "{\"components\":[]}",
-            "Simulation is complete, simulated time: 0 ps\n",
-        ),
-        (
-            "run g1.json --threads=2 --stop-at=3ns",
-            PING_PONG,
-            "ping: pong 1 at 2000 ps\nSimulation is complete, simulated time: 3000 ps\n",
-        ),
-        (
             "run --stop-at 2ns g1.json --parts=2",
             PING_PONG,
             "Simulation is complete, simulated time: 2000 ps\n",
-        ),
-        (
-            "run g1.json",
-            "{\"components\":[]}",
-            "Simulation is complete, simulated time: 0 ps\n",
-        ),
-        (
-            "run g1.json --stop-at=3ns",
-            PING_PONG,
-            "ping: pong 1 at 2000 ps\nSimulation is complete, simulated time: 3000 ps\n",
         ),
         (
             "run --stop-at 2ns g1.json",
@@ -158,6 +186,44 @@ fn does_what_lines_ask(rt: HostRuntime) -> Result<(), Fail> {
         let case = case_of(line, graph, Status::Whole, out, "");
         check(&rt, alloc, &case, Vec::new(alloc))?;
     }
+    Ok(())
+}
+
+#[test]
+fn runs_in_parts_what_it_runs_whole(rt: HostRuntime) -> Result<(), Fail> {
+    let alloc = rt.alloc();
+    for (line, graph, parts, out) in [
+        ("run g1.json", PING_PONG, 2, PONGS),
+        (
+            "run g1.json",
+            "{\"components\":[]}",
+            1,
+            "Simulation is complete, simulated time: 0 ps\n",
+        ),
+        (
+            "run g1.json --stop-at=3ns",
+            PING_PONG,
+            2,
+            "ping: pong 1 at 2000 ps\nSimulation is complete, simulated time: 3000 ps\n",
+        ),
+        (
+            "run g1.json --stop-at=2ns",
+            PING_PONG,
+            2,
+            "Simulation is complete, simulated time: 2000 ps\n",
+        ),
+    ] {
+        let case = case_of(line, graph, Status::Whole, out, "");
+        check_spread(&rt, alloc, &case, parts, &[])?;
+    }
+    let text = case_of(
+        "run g1.json",
+        "{\"components\":[",
+        Status::Text,
+        "",
+        "sst: text: g1.json\n",
+    );
+    check_spread(&rt, alloc, &text, 3, &[])?;
     Ok(())
 }
 
@@ -253,7 +319,10 @@ fn puts_statistics(rt: HostRuntime) -> Result<(), Fail> {
     let alloc = rt.alloc();
     let mut case = case_of("", ASKING, Status::Whole, PONGS, "");
     for line in [
+        "run g1.json --parts=1 --stats=s.csv",
+        "run g1.json --parts=2 --stats=s.csv",
         "run g1.json --threads=2 --stats=s.csv",
+        "run g1.json --threads=4 --stats=s.csv",
         "run g1.json --stats=s.csv",
     ] {
         case.line = line;
@@ -280,36 +349,35 @@ fn puts_statistics(rt: HostRuntime) -> Result<(), Fail> {
 #[test]
 fn runs_clocks(rt: HostRuntime) -> Result<(), Fail> {
     let alloc = rt.alloc();
-    for (graph, out) in [
+    for (graph, parts, out) in [
         (
             "{\"components\":[{\"name\":\"a\",\"type\":\"core.ticker\",\"params\":{\"clock\":\"1ns\",\"count\":1}},{\"name\":\"b\",\"type\":\"core.ticker\",\"params\":{\"clock\":\"1ns\",\"count\":1}},{\"name\":\"c\",\"type\":\"core.ticker\",\"params\":{\"count\":0}}],\"links\":[{\"name\":\"x\",\"left\":{\"component\":\"b\",\"port\":\"out\",\"latency\":\"1ns\"},\"right\":{\"component\":\"c\",\"port\":\"in1\",\"latency\":\"1ns\"}},{\"name\":\"y\",\"left\":{\"component\":\"a\",\"port\":\"out\",\"latency\":\"1ns\"},\"right\":{\"component\":\"c\",\"port\":\"in0\",\"latency\":\"1ns\"}}]}",
+            3,
             "a: tick 1 at 1000 ps\nb: tick 1 at 1000 ps\nc: event 1 on in1 at 2000 ps\nc: event 1 on in0 at 2000 ps\nSimulation is complete, simulated time: 1000000 ps\n",
         ),
         (
             "{\"components\":[{\"name\":\"a\",\"type\":\"core.ticker\",\"params\":{\"clock\":\"1ns\",\"count\":1}},{\"name\":\"b\",\"type\":\"core.ticker\",\"params\":{\"clock\":\"2ns\",\"count\":1}}],\"links\":[{\"name\":\"x\",\"left\":{\"component\":\"a\",\"port\":\"out\",\"latency\":\"1ns\"},\"right\":{\"component\":\"b\",\"port\":\"in0\",\"latency\":\"1ns\"}}]}",
+            2,
             "a: tick 1 at 1000 ps\nb: tick 1 at 2000 ps\nb: event 1 on in0 at 2000 ps\nSimulation is complete, simulated time: 1000000 ps\n",
         ),
         (
             "{\"components\":[{\"name\":\"a\",\"type\":\"core.ticker\",\"params\":{\"clock\":\"999999ps\",\"count\":1}}]}",
+            1,
             "a: tick 1 at 999999 ps\nSimulation is complete, simulated time: 1000000 ps\n",
         ),
         (
             "{\"components\":[{\"name\":\"a\",\"type\":\"core.ticker\",\"params\":{\"clock\":\"1us\",\"count\":1}}]}",
+            1,
             "a: tick 1 at 1000000 ps\nSimulation is complete, simulated time: 2000000 ps\n",
         ),
         (
             "{\"program_options\":{\"stop-at\":\"3ns\"},\"components\":[{\"name\":\"ping\",\"type\":\"core.pinger\",\"params\":{\"count\":3}},{\"name\":\"echo\",\"type\":\"core.echo\"}],\"links\":[{\"name\":\"x\",\"left\":{\"component\":\"ping\",\"port\":\"port\",\"latency\":\"1ns\"},\"right\":{\"component\":\"echo\",\"port\":\"port\",\"latency\":\"1ns\"}}]}",
+            2,
             "ping: pong 1 at 2000 ps\nSimulation is complete, simulated time: 3000 ps\n",
         ),
     ] {
-        for line in [
-            "run g1.json",
-            "run g1.json --threads=2",
-            "run g1.json --threads=4",
-        ] {
-            let case = case_of(line, graph, Status::Whole, out, "");
-            check(&rt, alloc, &case, Vec::new(alloc))?;
-        }
+        let case = case_of("run g1.json", graph, Status::Whole, out, "");
+        check_spread(&rt, alloc, &case, parts, &[])?;
     }
     Ok(())
 }
@@ -359,6 +427,7 @@ fn refuses_texts(rt: HostRuntime) -> Result<(), Fail> {
     for (graph, err) in [
         ("{}", "sst: graph: Member components\n"),
         ("[]", "sst: graph: Form graph\n"),
+        (NO_LATENCY, "sst: graph: Latency links[0].left\n"),
         (
             "{\"components\":[],\"shared_params\":1}",
             "sst: graph: SharedParams shared_params\n",
@@ -377,7 +446,7 @@ fn refuses_texts(rt: HostRuntime) -> Result<(), Fail> {
         ),
     ] {
         let case = case_of("run g1.json", graph, Status::Graph, "", err);
-        check(&rt, alloc, &case, Vec::new(alloc))?;
+        check_spread(&rt, alloc, &case, 3, &[])?;
     }
     Ok(())
 }
@@ -385,8 +454,6 @@ fn refuses_texts(rt: HostRuntime) -> Result<(), Fail> {
 #[test]
 fn tells_faults(rt: HostRuntime) -> Result<(), Fail> {
     let alloc = rt.alloc();
-    let mut fails = Vec::new(alloc);
-    fails.push(1)?;
     let write = case_of(
         "run g1.json",
         PING_PONG,
@@ -394,7 +461,7 @@ fn tells_faults(rt: HostRuntime) -> Result<(), Fail> {
         "ping: pong 1 at 2000 ps\n",
         "sst: write fault: output\n",
     );
-    check(&rt, alloc, &write, fails)?;
+    check_spread(&rt, alloc, &write, 2, &[1])?;
     let read = case_of(
         "run g2.json",
         PING_PONG,
@@ -402,9 +469,9 @@ fn tells_faults(rt: HostRuntime) -> Result<(), Fail> {
         "",
         "sst: read fault: g2.json\n",
     );
-    check(&rt, alloc, &read, Vec::new(alloc))?;
+    check_spread(&rt, alloc, &read, 3, &[])?;
     let mut bytewise = case_of("run g1.json", PING_PONG, Status::Whole, PONGS, "");
     bytewise.most = 1;
-    check(&rt, alloc, &bytewise, Vec::new(alloc))?;
+    check_spread(&rt, alloc, &bytewise, 2, &[])?;
     Ok(())
 }

@@ -2,10 +2,11 @@ use Rattle.std.proofs.Common.{◌≡◌, ◌∷◌, [], None, Some, refl, arith}
 use Rattle.std.proofs.lemmas.Result.{err_from_is_err_and}
 use Rattle.ss_graph.specs.Checks.{Check, first_fault}
 use Rattle.ss_graph.proofs.Judging.{passes, fails_behind, exits}
-use Rattle.ss_library.specs.declared.fault.MakeFault.{MakeFault}
+use Rattle.ss_network.specs.declared.fault.MakeFault.{MakeFault}
 use Rattle.ss_library.specs.declared.table.KindName.TheVariants as kind
 use Rattle.ss_library.specs.Tables.{clock_row, count_row, primary_row}
-use Rattle.ss_library.specs.Make.{is_memory, row_check, stats_by}
+use Rattle.ss_network.specs.Faults.{is_memory}
+use Rattle.ss_library.specs.Make.{row_check, stats_by}
 use Rattle.ss_library.proofs.Values.{count_fits}
 use Rattle.ss_library.proofs.element.ticker_at.Goals as goal
 

@@ -1,7 +1,8 @@
 use Rattle.std.proofs.Common.{◌≡◌, ◌<◌, ◌≤◌, length, get_or, ◌∙◌}
 use Rattle.std.proofs.lemmas.Result.{err_from_is_err_and}
 use Rattle.ss_graph.specs.Fit.{ends_of}
-use Rattle.ss_library.specs.Make.{is_memory, ports_checks, all_ports_checks}
+use Rattle.ss_network.specs.Faults.{is_memory}
+use Rattle.ss_library.specs.Make.{ports_checks, all_ports_checks}
 use Rattle.ss_library.proofs.Numbered.{numbered_passed, numbered_fails, numbered_done}
 use Rattle.ss_library.proofs.making.all_linked.Goals as goal
 

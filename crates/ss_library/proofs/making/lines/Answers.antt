@@ -1,6 +1,7 @@
 use Rattle.std.proofs.Common.{◌≡◌, ◌<◌, ◌≤◌, length, get_or, ap, ◌∙◌, arith, length-append}
 use Rattle.std.proofs.lemmas.Result.{err_from_is_err_and}
-use Rattle.ss_library.specs.Make.{is_memory, links_checks, link_checks, lines_of}
+use Rattle.ss_network.specs.Faults.{is_memory}
+use Rattle.ss_library.specs.Make.{links_checks, link_checks, lines_of}
 use Rattle.ss_library.proofs.Numbered.{numbered_passed, numbered_fails, numbered_done, numbered_read, numbered_all}
 use Rattle.ss_library.proofs.Lines.{wires_are}
 use Rattle.ss_library.proofs.making.lines.Goals as goal

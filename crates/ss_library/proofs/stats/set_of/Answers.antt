@@ -5,10 +5,11 @@ use Rattle.ss_stats.specs.declared.set.Stat.{Stat}
 use Rattle.ss_stats.specs.Set.{Entry}
 use Rattle.ss_graph.specs.declared.graph.StatAsk.{StatAsk}
 use Rattle.ss_graph.specs.Checks.{Check}
-use Rattle.ss_library.specs.declared.fault.MakeFault.{MakeFault}
+use Rattle.ss_network.specs.declared.fault.MakeFault.{MakeFault}
 use Rattle.ss_library.specs.declared.table.KindName.{KindName}
 use Rattle.ss_library.specs.Stats.{empty_stat, empty_stats}
-use Rattle.ss_library.specs.Make.{is_memory, stat_check, stats_by}
+use Rattle.ss_network.specs.Faults.{is_memory}
+use Rattle.ss_library.specs.Make.{stat_check, stats_by}
 use Rattle.ss_library.proofs.Numbered.{numbered_passed, numbered_fails, numbered_done}
 use Rattle.ss_library.proofs.stats.set_of.Goals as goal
 

@@ -1,0 +1,10 @@
+pub mod Names
+pub mod Number
+pub mod Pinger
+pub mod Echo
+pub mod Ticker
+pub mod Core
+pub mod PingerLaws
+pub mod EchoLaws
+pub mod TickerLaws
+pub mod Among
