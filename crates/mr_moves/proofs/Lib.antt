@@ -1,0 +1,4 @@
+pub mod Moving
+pub mod Chains
+pub mod Lifting
+pub mod Proving

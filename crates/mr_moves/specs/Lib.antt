@@ -1,0 +1,3 @@
+pub mod Moves
+pub mod Local
+pub mod Laws

@@ -1,0 +1,9 @@
+pub mod Leading
+pub mod Wires
+pub mod Seating
+pub mod Steps
+pub mod Routing
+pub mod Working
+pub mod Acting
+pub mod Running
+pub mod Numbering

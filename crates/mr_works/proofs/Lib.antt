@@ -1,0 +1,9 @@
+pub mod Lists
+pub mod Lines
+pub mod Routers
+pub mod Endpoints
+pub mod Telling
+pub mod Walking
+pub mod Counting
+pub mod EndpointNumbers
+pub mod Fresh

@@ -1,0 +1,6 @@
+pub mod Flows
+pub mod Routers
+pub mod Endpoints
+pub mod Walks
+pub mod Numbers
+pub mod Fresh
