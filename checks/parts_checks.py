@@ -1,5 +1,6 @@
-"""Runs 200 small graphs, made from a number, in parts, and compares each with its run in one part, byte for byte: the
-output, and the statistics that are stored. Components, latencies and clocks are chosen by the words of SplitMix64."""
+"""Runs 200 small graphs, made from a number, and the networks of examples/, in parts, and compares each with its run in one part,
+byte for byte: the output, and the statistics that are stored. Components, latencies and clocks of the small graphs are chosen by
+the words of SplitMix64."""
 
 import json
 import pathlib
@@ -11,6 +12,7 @@ import program
 MASK = (1 << 64) - 1
 HOW = ["linear", "roundrobin", "latency", "self", "single"]
 PORTS = ["in%d" % i for i in range(4)]
+NETWORKS = ["single_router", "mesh", "torus", "fattree"]
 
 
 class Words:
@@ -91,23 +93,33 @@ def spreads(count):
         yield ["--threads=%d" % threads]
 
 
+def graphs():
+    """The graphs, each with its name."""
+    for number in range(200):
+        yield "graph %d" % number, graph_of(number)
+    for name in NETWORKS:
+        graph = json.loads((program.TOP / "examples" / (name + ".json")).read_text())
+        for i, component in enumerate(graph["components"]):
+            component["partition"] = {"thread": i * 7 % 3}
+        yield name, graph
+
+
 def main():
     failed = runs = 0
-    for number in range(200):
-        graph = graph_of(number)
+    for name, graph in graphs():
         with tempfile.TemporaryDirectory() as folder:
             (pathlib.Path(folder) / "g.json").write_text(json.dumps(graph))
             wanted = left_by([], folder)
             if wanted[0] != 0:
-                print("failed: graph %d: %s" % (number, wanted[2]))
+                print("failed: %s: %s" % (name, wanted[2]))
                 failed += 1
                 continue
             for words in spreads(len(graph["components"])):
                 runs += 1
                 if left_by(words, folder) != wanted:
-                    print("failed: graph %d with %s" % (number, " ".join(words)))
+                    print("failed: %s with %s" % (name, " ".join(words)))
                     failed += 1
-    print("%s: 200 graphs, %d runs in parts" % ("failed" if failed else "ok", runs))
+    print("%s: 200 graphs and %d networks, %d runs in parts" % ("failed" if failed else "ok", len(NETWORKS), runs))
     return 1 if failed else 0
 
 
