@@ -1,6 +1,6 @@
 -- Lists of turns and of slots, one by one.
-use Rattle.std.proofs.Common.{◌≡◌, ℕ, zero, suc, ◌+◌, ◌-◌, ◌<◌, ◌≤◌, ◌⊎◌, inl, inr, Bool, true, false, cond, List, [], ◌∷◌, ◌++◌, length, map, take, drop, get_or, set, Some, Result, Ok, Err, refl, sym, ap, subst, ◌∙◌, append_assoc, append-nil, arith}
-use Rattle.std.specs.Prelude.{◌&&◌, ◌==◌, nat_lt, count_by, slice_get, slice_index}
+use Rattle.std.proofs.Common.{◌≡◌, ℕ, zero, suc, ◌+◌, ◌<◌, Bool, true, false, List, [], ◌∷◌, ◌++◌, length, map, take, drop, get_or, Some, Result, Ok, Err, refl, sym, ap, ◌∙◌, append_assoc, append-nil, arith}
+use Rattle.std.specs.Prelude.{◌==◌, count_by, slice_get, slice_index}
 use Rattle.std.specs.List.{flat_map, list_all, range_with_len}
 use Rattle.std.proofs.lemmas.Bool.Decides.{nat_tests}
 use Rattle.std.proofs.lemmas.List.Concat.{flat_map-cons}
@@ -14,7 +14,7 @@ use Rattle.mr_arb.specs.declared.turn.Turn.{Turn}
 use Rattle.mr_arb.specs.Arbitrating.{EachFits}
 use Rattle.mr_router.specs.Turns.{holds_once, turn_fits}
 use Rattle.mr_router.specs.Kept.Keeping.{fits_turns, turns_fit}
-use Rattle.mr_router.specs.Kept.Judging.{both, and_true, of_each, each_of}
+use Rattle.mr_router.specs.Kept.Judging.{both, of_each, each_of}
 
 pub not_eq : (a b : ℕ) → (a ≡ b → ⊥) → a == b ≡ false
 not_eq a b h = grind (arith, nat_tests)

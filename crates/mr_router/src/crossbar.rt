@@ -108,7 +108,8 @@ fn ask_front(
     }
 }
 
-// Adds the requests of a port's input queues, if its input is free.
+// Adds the requests of a port's input queues, if its input is free. A port that holds nothing is passed by.
+#[tactic(auto, using(crate::proofs::Quiet::quiet_port))]
 fn ask_port(
     set: &RouterSettings,
     ports: &[Port],
@@ -123,6 +124,9 @@ fn ask_port(
 {
     let port = &ports[usize::from(input)];
     if now < port.in_free {
+        return Ok(());
+    }
+    if port.line.held() == 0 {
         return Ok(());
     }
     for channel in 0..port.line.channels() {

@@ -1,6 +1,6 @@
 -- Routers are read back as they were saved.
-use Rattle.std.proofs.Common.{◌≡◌, ℕ, zero, suc, ◌+◌, ◌*◌, ◌/◌, ◌^◌, ◌<◌, ◌≤◌, Bool, true, List, [], ◌∷◌, length, map, refl, sym, ap, subst, ◌∙◌, arith}
-use Rattle.std.specs.Prelude.{slice_index, nat_lt, nat_le, ◌&&◌, codes}
+use Rattle.std.proofs.Common.{◌≡◌, ℕ, zero, suc, ◌*◌, ◌/◌, ◌^◌, ◌<◌, ◌≤◌, true, List, [], ◌∷◌, length, map, refl, sym, ap, subst, ◌∙◌, arith}
+use Rattle.std.specs.Prelude.{slice_index, nat_lt, codes}
 use Rattle.std.specs.List.{list_all}
 use Rattle.std.proofs.Math.Nat.{mul-le-mul_left}
 use Rattle.ss_wire.specs.Form.{times}
@@ -28,7 +28,7 @@ use Rattle.mr_router.specs.declared.settings.RouterSettings.{RouterSettings}
 use Rattle.mr_router.specs.declared.port.Port.{Port}
 use Rattle.mr_router.specs.Turns.{slots_in, turn_fits, order_form, turn_form, turns_form}
 use Rattle.mr_router.specs.Router.{Switch, port_at, width}
-use Rattle.mr_router.specs.Fitting.{peer_of, lanes, bounds_of, PortHolds, RouterHolds, port_fits, router_fits, lane_count, comes}
+use Rattle.mr_router.specs.Fitting.{lanes, bounds_of, PortHolds, RouterHolds, port_fits, router_fits}
 use Rattle.mr_router.specs.Saved.{with_port, port_form, ports_form, with_router, router_form, router_saving}
 use Rattle.mr_router.specs.Alike.{sizes_of, PortSettings, port_settings, turn_settings, RouterAlike}
 use Rattle.mr_router.specs.Kind.{router_kind}

@@ -1,6 +1,6 @@
 -- How much the queues of a line's end can hold, which neither handling nor reading changes.
 use Rattle.std.proofs.Common.{◌≡◌, ℕ, zero, suc, ◌*◌, ◌^◌, ◌<◌, ◌≤◌, List, [], ◌∷◌, length, map, set, refl, sym, ap, subst, ◌∙◌, arith}
-use Rattle.mr_flow.specs.Queue.{Row, IsShort, row_at}
+use Rattle.mr_flow.specs.Queue.{Row, row_at}
 use Rattle.mr_flow.specs.Side.{Side, IsWhole, channels, input, output}
 use Rattle.mr_flow.specs.Saved.{Lane, lanes_form, lanes_by, lanes_of, with_lanes}
 use Rattle.mr_flow.proofs.Lanes.{length-lanes, lanes_again}

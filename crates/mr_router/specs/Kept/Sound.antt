@@ -35,7 +35,7 @@ waiting-cons false n h = (refl, omega arith)
 waiting-more : (q : Row) (qs : List Row) → waiting_in (q ∷ qs) ≡ cond (is_waiting q) 1 0 + waiting_in qs
 waiting-more q qs = sum_by-cons (λ r. cond (is_waiting r) 1 0) q qs
 
-none_waits : (qs : List Row) (c : ℕ) → waiting_in qs ≡ 0 → (row_at qs c).packets ≡ []
+pub none_waits : (qs : List Row) (c : ℕ) → waiting_in qs ≡ 0 → (row_at qs c).packets ≡ []
 none_waits [] c h = refl
 none_waits (q ∷ qs) zero h = no_length q.packets (waiting-cons (is_waiting q) (waiting_in qs) (sym (waiting-more q qs) ∙ h)).0
 none_waits (q ∷ qs) (suc c) h = none_waits qs c (waiting-cons (is_waiting q) (waiting_in qs) (sym (waiting-more q qs) ∙ h)).1
