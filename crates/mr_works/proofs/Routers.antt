@@ -25,11 +25,11 @@ use Rattle.mr_router.specs.Holding.{IsBound, AllBound}
 use Rattle.mr_router.specs.Fitting.{RouterHolds}
 use Rattle.mr_router.specs.Keeping.{Told}
 use Rattle.mr_router.specs.Kind.{router_kind, router_allowed}
-use Rattle.mr_router.proofs.Ports.{ports-set, length-changed, changed_here, changed_else, changed_same, front_bound, pumped_bound, port_mapped}
-use Rattle.mr_router.proofs.Steps.{crossed_bound}
-use Rattle.mr_router.proofs.Balance.{there_by_head}
-use Rattle.mr_router.proofs.Keeping.{router_is_ready}
-use Rattle.mr_router.proofs.Lawful.{router_laws}
+use Rattle.mr_router.specs.Kept.Ports.{ports-set, length-changed, changed_here, changed_else, changed_same, front_bound, pumped_bound, port_mapped}
+use Rattle.mr_router.specs.Kept.Steps.{crossed_bound}
+use Rattle.mr_router.specs.Kept.Balance.{there_by_head}
+use Rattle.mr_router.specs.Kept.Keeping.{router_is_ready}
+use Rattle.mr_router.specs.Kept.Lawful.{router_laws}
 use Rattle.mr_order.specs.Rows.{only_if, sends_all, Leaves}
 use Rattle.mr_order.specs.Ways.{Other, Arrived, Crossed, Acts, Done, Rest, Pump, Cross, Comes, Quiet, Moves, KindWays}
 use Rattle.mr_works.specs.Flows.{carries}

@@ -9,6 +9,3 @@ pub use laws::{
     elements_speak_as_members, lines_agree, new_elements_can_begin, new_elements_have_their_credits,
 };
 pub use making::{nic_settings, router_from};
-
-#[cfg(test)]
-mod tests;
