@@ -188,6 +188,9 @@ def other_rows():
     yield "a statistic asked for twice", asked, refused("Param components[2].statistics[1]")
     big = networks.graph_of(networks.single(2), endpoint={"message_size": "64B"}, router={"input_buf_size": "56B"})
     yield "a message larger than a router's queue", big, refused("Param components[1].params.message_size")
+    single = json.loads((program.TOP / "examples" / "single_router.json").read_text())
+    single["components"][1]["params"]["message_size"] = "72B"
+    yield "a message of nine flits for queues of eight", single, refused("Param components[1].params.message_size")
     tree = networks.graph_of(networks.fattree("2,2:4"))
     tree["components"][0]["params"]["id"] = 6
     yield "a fat tree's router whose number is too high", tree, refused("Param components[0].params.id")

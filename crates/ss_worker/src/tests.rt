@@ -2,12 +2,24 @@
 
 ghost use Rattle.std.specs.Prelude.{◌≡◌, length, IfOk};
 
-use crate::insert_events;
 use crate::out::sort_out;
+use crate::{Batch, Worker, insert_events};
 use ss_element::Wires;
 use ss_model::{ARRIVAL, Event, Key};
 use ss_pending::Pending;
+use ss_run::Simulated;
 use std::alloc::{AllocError, Global};
+
+fn crosses<T: Send>() {}
+
+// Batches and workers go between threads where their elements do.
+fn batches_and_workers_cross<E: Simulated + Send>()
+where
+    E::Load: Send,
+{
+    crosses::<Batch<E>>();
+    crosses::<Worker<E>>();
+}
 
 // Line 0 goes to component 1, and line 1 to component 2.
 fn wired(alloc: Global) -> Result<Wires, AllocError> {
