@@ -1,3 +1,4 @@
 pub mod Orders
 pub mod Uses
 pub mod Picking
+pub mod Chaining

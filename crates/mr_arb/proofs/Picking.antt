@@ -1,10 +1,10 @@
 -- Arbitration output by output.
-use Rattle.std.proofs.Common.{◌≡◌, ℕ, zero, suc, ◌+◌, ◌<◌, ◌≤◌, List, [], ◌∷◌, ◌++◌, length, ◌^◌, replicate, slice_get, refl, ap, sym, subst, ◌∙◌, arith, add-one, get_or, set, take, drop, Bool, true, false, not, append_assoc, ◌&&◌, Option, Some, None, ◌==◌, if◌then◌else◌, drop-cons, ◌≢◌}
+use Rattle.std.proofs.Common.{◌≡◌, ℕ, zero, suc, ◌+◌, ◌<◌, ◌≤◌, List, [], ◌∷◌, ◌++◌, length, replicate, slice_get, refl, ap, sym, subst, ◌∙◌, arith, add-one, get_or, set, take, drop, Bool, true, false, not, append_assoc, ◌&&◌, Option, Some, None, ◌==◌, if◌then◌else◌, drop-cons, ◌≢◌}
 use Rattle.std.specs.List.{filter, fold, All}
 use Rattle.std.proofs.lemmas.Grind.{common_steps}
 use Rattle.std.proofs.lemmas.List.Elements.{filter-append, All-filter, All-tail, All-more}
 use Rattle.std.proofs.lemmas.List.Sums.{fold-append}
-use Rattle.std.proofs.lemmas.List.{append-nil, length-replicate, take_all, get_or-drop, take_more}
+use Rattle.std.proofs.lemmas.List.{append-nil, take_all, get_or-drop, take_more}
 use Rattle.mr_arb.specs.declared.Request.{Request}
 use Rattle.mr_arb.specs.declared.turn.Turn.{Turn}
 use Rattle.mr_arb.specs.declared.turn.Turn.TheVariants.{RoundRobin, LeastRecent, Age}
@@ -21,10 +21,10 @@ keep-one p xs x e = filter-append p xs (x ∷ []) ∙ ap (λ (ys : List Request)
 drop-one : (p : Request → Bool) (xs : List Request) (x : Request) → p x ≡ false → filter p (xs ++ x ∷ []) ≡ filter p xs
 drop-one p xs x e = filter-append p xs (x ∷ []) ∙ ap (λ (ys : List Request). filter p xs ++ ys) (rw e refl) ∙ append-nil (filter p xs)
 
-abbrev asks : ℕ → Request → Bool
+abbrev pub asks : ℕ → Request → Bool
 asks output q = q.output == output
 
-abbrev is-free : List Bool → Request → Bool
+abbrev pub is-free : List Bool → Request → Bool
 is-free granted q = not (get_or granted q.input false)
 
 take-one : (qs : List Request) (i : ℕ) (q : Request) → i < length qs → q ≡ get_or qs i q → take (i + 1) qs ≡ take i qs ++ q ∷ []
@@ -67,13 +67,8 @@ first-fits RoundRobinKind slots h = h
 first-fits LeastRecentKind slots h = order_range slots
 first-fits AgeKind slots h = tt
 
-pub arbiter_first : (kind : ArbKind) (slots n : ℕ) → 1 ≤ slots → slots ≤ 4096 → n < 2 ^ 16 → IsArbiter slots (replicate n (turn_of kind slots)) slots
-arbiter_first kind slots n h m l = record {
-  few = m;
-  outputs = rw (length-replicate n (turn_of kind slots)) l;
-  inputs = refl;
-  fit = λ o turn e. subst (Fits slots) (sym (slice-get-replicate n o (turn_of kind slots) turn e)) (first-fits kind slots h);
-}
+pub each_first : (kind : ArbKind) (slots n : ℕ) → 1 ≤ slots → EachFits slots (replicate n (turn_of kind slots))
+each_first kind slots n h = λ o turn e. subst (Fits slots) (sym (slice-get-replicate n o (turn_of kind slots) turn e)) (first-fits kind slots h)
 
 -- marks of inputs
 
@@ -116,13 +111,13 @@ better-by : (f : Request → Request → Bool) (P : Request → Type 0) (p x a :
 better-by f P p x a true pp px e = subst P (some-same x a e) px
 better-by f P p x a false pp px e = subst P (some-same p a e) pp
 
-better-in : (f : Request → Request → Bool) (P : Request → Type 0) (o : Option Request) (x a : Request) → ((q : Request) → o ≡ Some q → P q) → P x → better f o x ≡ Some a → P a
-better-in f P None x a h px e = subst P (some-same x a e) px
-better-in f P (Some p) x a h px e = better-by f P p x a (f x p) (h p refl) px e
+pub better_in : (f : Request → Request → Bool) (P : Request → Type 0) (o : Option Request) (x a : Request) → ((q : Request) → o ≡ Some q → P q) → P x → better f o x ≡ Some a → P a
+better_in f P None x a h px e = subst P (some-same x a e) px
+better_in f P (Some p) x a h px e = better-by f P p x a (f x p) (h p refl) px e
 
 winner-in-from : (f : Request → Request → Bool) (P : Request → Type 0) (xs : List Request) (o : Option Request) (q : Request) → ((a : Request) → o ≡ Some a → P a) → All P xs → fold (better f) o xs ≡ Some q → P q
 winner-in-from f P [] o q h all e = h q e
-winner-in-from f P (x ∷ xs) o q h all e = winner-in-from f P xs (better f o x) q (λ a. better-in f P o x a h (all 0 x (omega arith))) (All-tail P x xs all) e
+winner-in-from f P (x ∷ xs) o q h all e = winner-in-from f P xs (better f o x) q (λ a. better_in f P o x a h (all 0 x (omega arith))) (All-tail P x xs all) e
 
 none-some : {X : Type 0} (x : X) → None ≡ Some x → ⊥
 none-some x e = grind (arith, e)
@@ -227,10 +222,12 @@ free_all granted qs n l h = free-all granted qs (subst (All (λ p. get_or grante
 
 -- an arbiter after a call
 
-pub arbiter_kept : (slots n k : ℕ) (turns new : List Turn) (qs : List Request) → All (λ q. q.slot < slots) qs → IsArbiter slots turns n → new ≡ (picks slots 0 turns qs).0 → k ≡ slots → IsArbiter slots new k
-arbiter_kept slots n k turns new qs a h e l = record {
+pub arbiter_kept : (slots n heads links k i j : ℕ) (turns new : List Turn) (qs : List Request) → All (λ q. q.slot < slots) qs → IsArbiter slots turns n heads links → new ≡ (picks slots 0 turns qs).0 → k ≡ slots → i ≡ heads → j ≡ links → IsArbiter slots new k i j
+arbiter_kept slots n heads links k i j turns new qs a h e l f g = record {
   few = h.few;
   outputs = rw (e, length_picks slots 0 turns qs) h.outputs;
   inputs = l;
+  heads = f ∙ h.heads ∙ sym (ap length e ∙ length_picks slots 0 turns qs);
+  links = g ∙ h.links;
   fit = subst (EachFits slots) (sym e) (picks-fit slots 0 turns qs a h.fit);
 }

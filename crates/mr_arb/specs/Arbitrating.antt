@@ -83,10 +83,12 @@ pub record Arbiting : Type 0 where
   pub slots : ℕ
   pub turns : List Turn
 
-pub record IsArbiter (slots : ℕ) (turns : List Turn) (places : ℕ) : Type 0 where
+pub record IsArbiter (slots : ℕ) (turns : List Turn) (places firsts nexts : ℕ) : Type 0 where
   pub few : slots ≤ 4096
   pub outputs : length turns < 2 ^ 16
   pub inputs : places ≡ slots
+  pub heads : firsts ≡ length turns
+  pub links : nexts ≡ slots
   pub fit : EachFits slots turns
 
 -- the first turn of an output

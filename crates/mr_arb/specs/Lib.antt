@@ -1,3 +1,4 @@
 pub mod Slots
 pub mod Arbitrating
+pub mod Chains
 pub mod Uses

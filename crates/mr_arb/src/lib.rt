@@ -5,10 +5,13 @@
 ghost use Rattle.std.specs.Prelude.{◌≡◌, ◌<◌, ◌≤◌, ◌==◌, ◌++◌, ◌&&◌, ℕ, All, take, drop, length, filter, replicate, slice_get, slice_index, not, ◌+◌, ◌^◌, IfOk, IfSome, Some};
 ghost use Rattle.std.specs.Option.{ForSome};
 ghost use Rattle.mr_arb.specs.Arbitrating.{Fits, EachFits, picks, wins, better, winner, free, marked, grant_of, turn_of};
+ghost use Rattle.mr_arb.specs.Chains.{AreChains};
 
+mod chains;
 mod order;
 mod turn;
 
+use chains::chain;
 pub use order::Order;
 use std::alloc::{AllocError, Global};
 use std::marker::Model;
@@ -45,6 +48,10 @@ pub struct Arbiter {
     turns: Vec<Turn>,
     // which inputs were granted in this call
     granted: Vec<bool>,
+    // the number of each output's first request in this call
+    first: Vec<u32>,
+    // for each request of this call the number of the next one for the same output
+    next: Vec<u32>,
 }
 
 impl Model for Arbiter {
@@ -55,11 +62,11 @@ impl Model for Arbiter {
 
     ghost view = { λ a. record { slots = a.slots; turns = a.turns.items } };
 
-    ghost invariant = { λ a. IsArbiter a.slots a.turns.items (length a.granted.items) };
+    ghost invariant = { λ a. IsArbiter a.slots a.turns.items (length a.granted.items) (length a.first.items) (length a.next.items) };
 }
 
 impl Arbiter {
-    #[tactic(auto, using(crate::proofs::Picking::replicate_more, crate::proofs::Picking::arbiter_first))]
+    #[tactic(auto, using(crate::proofs::Picking::replicate_more))]
     /// Arbiters for this many outputs, over input queues with the numbers from 0 to `slots - 1`. It fails only where no memory is left.
     pub fn new(
         alloc: Global,
@@ -76,12 +83,7 @@ impl Arbiter {
         for _output in 0..outputs {
             turns.push(Turn::of_kind(alloc, kind, slots)?)?;
         }
-        let granted = Vec::from_elem(alloc, false, slots as usize)?;
-        Ok(Arbiter {
-            slots,
-            turns,
-            granted,
-        })
+        Arbiter::of_turns(alloc, slots, turns)
     }
 
     /// Arbiters that go on from these turns, one per output. It fails only where no memory is left.
@@ -92,10 +94,14 @@ impl Arbiter {
         ensures { IfOk result (λ a. a ≡ record { slots = slots; turns = turns.items }) }
     {
         let granted = Vec::from_elem(alloc, false, slots as usize)?;
+        let first = Vec::from_elem(alloc, 0, turns.len())?;
+        let next = Vec::from_elem(alloc, 0, slots as usize)?;
         Ok(Arbiter {
             slots,
             turns,
             granted,
+            first,
+            next,
         })
     }
 
@@ -107,7 +113,8 @@ impl Arbiter {
     }
 
     /// Grants each output, in ascending order, the slot of one of its requests or none, and no input more than one slot. `grants` then
-    /// has a place per output, with the granted slot or `u32::MAX`. It takes no memory.
+    /// has a place per output, with the granted slot or `u32::MAX`. It takes no memory. With no more requests than slots each output looks
+    /// at its own requests alone, and otherwise at all of them.
     pub fn pick(&mut self, requests: &[Request], grants: &mut [u32])
         requires outputs { length grants.old ≡ length self.old.turns }
         requires slots { All (λ q. q.slot < self.old.slots) requests.now }
@@ -116,10 +123,13 @@ impl Arbiter {
         ensures turns { self.new ≡ record self.old { turns = (picks self.old.slots 0 self.old.turns requests.now).0 } }
     {
         clear(&mut self.granted, requests);
+        chain(&mut self.first, &mut self.next, requests);
         pick_each(
             &mut self.turns,
             self.slots,
             &mut self.granted,
+            &self.first,
+            &self.next,
             requests,
             grants,
         );
@@ -142,11 +152,15 @@ fn pick_each(
     turns: &mut [Turn],
     slots: u32,
     granted: &mut [bool],
+    first: &[u32],
+    next: &[u32],
     requests: &[Request],
     grants: &mut [u32],
 )
     requires few { length turns.old < 2 ^ 16 }
     requires outputs { length grants.old ≡ length turns.old }
+    requires first { length first.now ≡ length turns.old }
+    requires chains { length requests.now ≤ length next.now → AreChains first.now next.now 0 requests.now }
     requires fit { EachFits slots turns.old }
     requires slots { All (λ q. q.slot < slots) requests.now }
     requires inputs { All (λ q. q.input < length granted.old) requests.now }
@@ -154,7 +168,15 @@ fn pick_each(
     ensures grants { grants.new ≡ (picks slots 0 turns.old (free granted.old requests.now)).1 }
 {
     for output in 0..turns.len() {
-        let winner = winner_of(&turns[output], slots, output as u16, granted, requests);
+        let winner = winner_of(
+            &turns[output],
+            slots,
+            output as u16,
+            granted,
+            first,
+            next,
+            requests,
+        );
         grants[output] = slot_of(winner);
         mark(granted, winner);
         turns[output].pass(slots, winner);
@@ -195,8 +217,62 @@ fn preferred(turn: &Turn, slots: u32, best: Option<Request>, request: Request) -
 }
 
 // The request that wins an output, among those of inputs that weren't granted.
-#[tactic(auto, using(crate::proofs::Picking::winner_more, crate::proofs::Picking::winner_skip))]
 fn winner_of(
+    turn: &Turn,
+    slots: u32,
+    output: u16,
+    granted: &[bool],
+    first: &[u32],
+    next: &[u32],
+    requests: &[Request],
+) -> Option<Request>
+    requires turn { Fits slots turn.now }
+    requires slots { All (λ q. q.slot < slots) requests.now }
+    requires inputs { All (λ q. q.input < length granted.now) requests.now }
+    requires output { output < length first.now }
+    requires chains { length requests.now ≤ length next.now → AreChains first.now next.now 0 requests.now }
+    ensures { result ≡ winner slots output turn.now (free granted.now requests.now) }
+{
+    if requests.len() <= next.len() {
+        winner_of_own(turn, slots, output, granted, first, next, requests)
+    } else {
+        winner_of_all(turn, slots, output, granted, requests)
+    }
+}
+
+// The request that wins an output, from the requests of its chain.
+fn winner_of_own(
+    turn: &Turn,
+    slots: u32,
+    output: u16,
+    granted: &[bool],
+    first: &[u32],
+    next: &[u32],
+    requests: &[Request],
+) -> Option<Request>
+    requires turn { Fits slots turn.now }
+    requires slots { All (λ q. q.slot < slots) requests.now }
+    requires inputs { All (λ q. q.input < length granted.now) requests.now }
+    requires output { output < length first.now }
+    requires room { length requests.now ≤ length next.now }
+    requires chains { AreChains first.now next.now 0 requests.now }
+    ensures { result ≡ winner slots output turn.now (free granted.now requests.now) }
+{
+    let mut best = None;
+    let mut number = first[output as usize] as usize;
+    while number < requests.len() {
+        let request = requests[number];
+        if !granted[request.input as usize] {
+            best = Some(preferred(turn, slots, best, request));
+        }
+        number = next[number] as usize;
+    }
+    best
+}
+
+// The request that wins an output, from all requests.
+#[tactic(auto, using(crate::proofs::Picking::winner_more, crate::proofs::Picking::winner_skip))]
+fn winner_of_all(
     turn: &Turn,
     slots: u32,
     output: u16,

@@ -17,6 +17,17 @@ fn request(slot: u32, input: u16, born: u64) -> Request
     }
 }
 
+fn request_for(output: u16, slot: u16) -> Request
+    ensures { result ≡ record { slot = slot; input = slot; output = output; born = 0 } }
+{
+    Request {
+        slot: slot as u32,
+        input: slot,
+        output,
+        born: 0,
+    }
+}
+
 #[test]
 fn round_robin_goes_on(rt: HostRuntime) -> Result<(), AllocError> {
     let mut arbiter = Arbiter::new(rt.alloc(), ArbKind::RoundRobin, 4, 1)?;
@@ -93,5 +104,32 @@ fn an_arbiter_goes_on(rt: HostRuntime) -> Result<(), AllocError> {
     let mut grants = [0];
     arbiter.pick(&[request(1, 1, 9), request(3, 3, 5)], &mut grants);
     assert_eq!(rt; grants[0], 3);
+    Ok(())
+}
+
+#[test]
+fn each_output_has_its_own_requests(rt: HostRuntime) -> Result<(), AllocError> {
+    let mut arbiter = Arbiter::new(rt.alloc(), ArbKind::RoundRobin, 4, 3)?;
+    let requests = [
+        request_for(2, 0),
+        request_for(0, 1),
+        request_for(2, 2),
+        request_for(0, 3),
+    ];
+    let mut grants = [9, 9, 9];
+    arbiter.pick(&requests, &mut grants);
+    assert_eq!(rt; grants, [1, u32::MAX, 0]);
+    arbiter.pick(&requests, &mut grants);
+    assert_eq!(rt; grants, [3, u32::MAX, 2]);
+    Ok(())
+}
+
+#[test]
+fn more_requests_than_slots(rt: HostRuntime) -> Result<(), AllocError> {
+    let mut arbiter = Arbiter::new(rt.alloc(), ArbKind::RoundRobin, 2, 2)?;
+    let requests = [request_for(1, 0), request_for(0, 1), request_for(1, 1)];
+    let mut grants = [9, 9];
+    arbiter.pick(&requests, &mut grants);
+    assert_eq!(rt; grants, [1, 0]);
     Ok(())
 }

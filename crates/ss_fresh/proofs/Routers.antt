@@ -16,7 +16,7 @@ use Rattle.mr_flow.specs.Load.{row_fits}
 use Rattle.mr_flow.specs.Queue.{empty_row, flits_of}
 use Rattle.mr_flow.specs.Side.{channels, input, credits_at}
 use Rattle.mr_flow.proofs.Sides.{each-replicate, whole_fresh}
-use Rattle.mr_arb.proofs.Picking.{arbiter_first}
+use Rattle.mr_arb.proofs.Picking.{each_first}
 use Rattle.mr_router.specs.declared.settings.RouterSettings.{RouterSettings}
 use Rattle.mr_router.specs.declared.port.Port.{Port}
 use Rattle.mr_router.specs.Turns.{turn_fits}
@@ -190,7 +190,7 @@ module _ (w : Wiring) (ms : List Member) (i : ℕ) (r : RouterAsk) (stats : List
   turns_in =
       let e = rooms_length in
       let s = slots_within (length (rooms_of w ms i r)) (width (router_set (least ms) r)) (let p = some_ports in omega (arith, e, p)) (let f = few in omega (arith, e, f)) widths.0 widths.1 in
-      turns_fit _ _ (arbiter_first r.arb (length (rooms_of w ms i r) * width (router_set (least ms) r)) (length (rooms_of w ms i r)) s.0 s.1 (let f = few in omega (arith, e, f))).fit
+      turns_fit _ _ (each_first r.arb (length (rooms_of w ms i r) * width (router_set (least ms) r)) (length (rooms_of w ms i r)) s.0)
 
   idle_begun : all_idle (begun_router w ms i r stats).ports ≡ true
   idle_begun = idle_ports (router_set (least ms) r) 0 (rooms_of w ms i r)
