@@ -1,11 +1,12 @@
 -- What fits the form, as the definitions of sound states have it, and its spelling, field by field.
 use Rattle.std.proofs.Common.{◌≡◌, ℕ, zero, suc, ◌+◌, ◌≤◌, Bool, true, false, eqb, List, [], ◌∷◌, ◌++◌, length, drop, Option, Some, None, is_some, Result, Ok, Err, refl, sym, ap, subst, ◌∙◌, append_assoc, arith}
-use Rattle.std.specs.Prelude.{slice_get, not, IfOk}
+use Rattle.std.proofs.lemmas.Grind.{common_steps}
+use Rattle.std.specs.Prelude.{slice_get, not, IfOk, ◌==◌, if◌then◌else◌}
 use Rattle.std.specs.List.{flat_map}
 use Rattle.std.proofs.lemmas.List.{drop_at}
 use Rattle.std.proofs.lemmas.List.Concat.{flat_map-cons}
-use Rattle.ss_wire.specs.Wire.{Cursor, IsBytes}
-use Rattle.ss_wire.specs.Form.{big_bytes, ◌>>=◌, IsForm, spell_some, choose, nothing, each, lifted, whole}
+use Rattle.ss_wire.specs.Wire.{Cursor, IsBytes, number}
+use Rattle.ss_wire.specs.Form.{Form, big_bytes, ◌>>=◌, IsForm, spell_some, choose, nothing, each, lifted, whole}
 use Rattle.ss_wire.proofs.Fields.{IsBytes-drop}
 use Rattle.ss_wire.proofs.Forms.{ok_is, each_length, whole_takes, whole_again}
 use Rattle.ss_model.specs.declared.Key.{Key}
@@ -165,6 +166,27 @@ found_head law (Err e) bytes old new are rest at told body = tt
 pub first_head : (r : Result Head CkptFault) (bytes : List ℕ) (old new : Cursor) → old.rest ≡ bytes → old.at ≡ 0 → Gives fields_of r new (head_form.read old) → GivesAll fields_of r (first_read head_form bytes 0)
 first_head (Ok h) bytes old new rest at told = ap (λ q. q >>= λ x. Ok x.0) (ap head_form.read (sym (cursor_is old bytes 0 rest at)) ∙ told)
 first_head (Err e) bytes old new rest at told = fails_on e (head_form.read (record { rest = bytes; at = 0 })) (λ x. Ok x.0) (subst (λ c. Fails e (head_form.read c)) (cursor_is old bytes 0 rest at) told)
+
+-- what is left behind the whole: nothing, or a byte that doesn't belong there
+whole_on : {A : Type 0} (f : Form CkptFault A) (bytes : List ℕ) (at : ℕ) (old new : Cursor) (a : A) → old.rest ≡ drop at bytes → old.at ≡ at → f.read old ≡ Ok (a, new) →
+    whole_read f bytes at ≡ (if length new.rest == 0 then Ok a else Err (fault.Trailing new.at))
+whole_on f bytes at old new a rest is told = ap (λ q. q >>= λ x. if length x.1.rest == 0 then Ok x.0 else Err (fault.Trailing x.1.at)) (ap f.read (sym (cursor_is old (drop at bytes) at rest is)) ∙ told)
+
+byte_left : {A : Type 0} (rest : List ℕ) (at : ℕ) (a : A) (n : ℕ × Cursor) → number 1 (record { rest = rest; at = at }) ≡ Ok n → (if length rest == 0 then Ok a else Err (fault.Trailing at)) ≡ Err (fault.Trailing at)
+byte_left [] at a n e = absurd cc
+byte_left (b ∷ bs) at a n e = grind (arith, common_steps)
+
+none_left : {A : Type 0} (rest : List ℕ) (at k : ℕ) (a : A) → number 1 (record { rest = rest; at = at }) ≡ Err k → (if length rest == 0 then Ok a else Err (fault.Trailing at)) ≡ Ok a
+none_left [] at k a e = refl
+none_left (b ∷ bs) at k a e = grind (arith, common_steps, e)
+
+pub left_over : {A : Type 0} (f : Form CkptFault A) (bytes : List ℕ) (at : ℕ) (old new : Cursor) (a : A) (n : ℕ × Cursor) → old.rest ≡ drop at bytes → old.at ≡ at → f.read old ≡ Ok (a, new) → number 1 new ≡ Ok n →
+    whole_read f bytes at ≡ Err (fault.Trailing new.at)
+left_over f bytes at old new a n rest is told e = whole_on f bytes at old new a rest is told ∙ byte_left new.rest new.at a n e
+
+pub used_up : {A : Type 0} (f : Form CkptFault A) (bytes : List ℕ) (at k : ℕ) (old new : Cursor) (a : A) → old.rest ≡ drop at bytes → old.at ≡ at → f.read old ≡ Ok (a, new) → number 1 new ≡ Err k →
+    whole_read f bytes at ≡ Ok a
+used_up f bytes at k old new a rest is told e = whole_on f bytes at old new a rest is told ∙ none_left new.rest new.at k a e
 
 -- ---- the whole
 

@@ -55,7 +55,7 @@ counted_all [] = refl
 counted_all (inner.Own c i ∷ ls) = omega (arith, counted_all ls, sum_by-cons (λ x. cond (is_own x) 1 0) (inner.Own c i) ls, sum_by-cons (λ x. cond (is_clock x) 1 0) (inner.Own c i) ls)
 counted_all (inner.Clock c i period ∷ ls) = omega (arith, counted_all ls, sum_by-cons (λ x. cond (is_own x) 1 0) (inner.Clock c i period) ls, sum_by-cons (λ x. cond (is_clock x) 1 0) (inner.Clock c i period) ls)
 
-nothing : {X : Type 0} (o : Option X) → o ≡ first_of o None
+pub nothing : {X : Type 0} (o : Option X) → o ≡ first_of o None
 nothing None = refl
 nothing (Some x) = refl
 

@@ -29,23 +29,27 @@ use ss_stats::StatSet;
 use ss_wire::{Reader, Writer};
 pub use statistics::{restore_stats, save_stats, statistics_are_read_back};
 use std::alloc::{AllocError, Global};
-use std::collections::VecDeque;
+use std::mem;
 pub use wires::Wires;
 
 /// The actions of a call, in order.
 #[derive(Drop)]
 pub struct Acts<L> {
-    items: VecDeque<Action<L>>,
+    // Those that were taken have left others in their places, as far as `next`.
+    items: Vec<Action<L>>,
+    next: usize,
     alloc: Global,
 }
 
 impl<L> std::marker::Model for Acts<L> {
-    ghost use Rattle.std.specs.Prelude.{List};
+    ghost use Rattle.std.specs.Prelude.{List, length, drop, ◌≤◌};
     ghost use Rattle.ss_model.specs.declared.Action.{Action};
 
     ghost Value = { List (Action L) };
 
-    ghost view = { λ a. a.items.items };
+    ghost view = { λ a. drop a.next a.items.items };
+
+    ghost invariant = { λ a. a.next ≤ length a.items.items };
 }
 
 impl<L> Acts<L> {
@@ -54,7 +58,8 @@ impl<L> Acts<L> {
         ensures { result ≡ [] }
     {
         Acts {
-            items: VecDeque::new(alloc),
+            items: Vec::new(alloc),
+            next: 0,
             alloc,
         }
     }
@@ -62,6 +67,13 @@ impl<L> Acts<L> {
     /// The allocator for what an action holds, such as a text.
     pub fn allocator(&self) -> Global {
         self.alloc
+    }
+
+    // Those that are left.
+    fn left(&self) -> &[Action<L>]
+        ensures { result.now ≡ self.now }
+    {
+        &self.items[self.next..]
     }
 
     /// Adds an action behind the others. After an error the actions are as before.
@@ -72,39 +84,44 @@ impl<L> Acts<L> {
         ensures ok { OnOk result (self.new ≡ self.old ++ action ∷ []) }
         ensures err { OnErr result (self.new ≡ self.old) }
     {
-        self.items.push_back(action)?;
+        self.items.push(action)?;
         Ok(())
     }
 
-    /// Takes the first action. The buffer stays allocated, so that emptied actions are filled again without
-    /// taking memory.
+    /// Takes the first action. The buffer stays allocated, and once it is cleared it is filled again without taking
+    /// memory.
     #[inline(always)]
     pub fn take(&mut self) -> Option<Action<L>>
         ensures some { IfSome result (λ a. self.old ≡ a ∷ self.new) }
         ensures none { IfNone result ((self.old ≡ []) × (self.new ≡ [])) }
     {
-        self.items.pop_front()
+        let place = self.next;
+        if place >= self.items.len() {
+            return None;
+        }
+        self.next += 1;
+        Some(mem::replace(&mut self.items[place], Action::ClockOff { clock: 0 }))
     }
 
     /// How many actions there are.
     pub fn len(&self) -> usize
         ensures { result ≡ length self.now }
     {
-        self.items.len()
+        self.left().len()
     }
 
     /// Whether there are no actions.
     pub fn is_empty(&self) -> bool
         ensures { result ≡ (length self.now == 0) }
     {
-        self.items.is_empty()
+        self.left().is_empty()
     }
 
     /// The action at an index, so that actions can be gone over in order without being copied.
     pub fn get(&self, index: usize) -> Option<&Action<L>>
         ensures { IsItemAt self.now index result }
     {
-        self.items.get(index)
+        self.left().get(index)
     }
 
     /// Lets all actions go. The buffer stays allocated.
@@ -114,13 +131,14 @@ impl<L> Acts<L> {
         ensures { self.new ≡ [] }
     {
         self.items.clear();
+        self.next = 0;
     }
 
     /// Whether one of the actions turns the clock off.
     pub fn turns_off(&self, clock: u16) -> bool
         ensures { result ≡ turns_off clock self.now }
     {
-        self.items.iter().any(|a| matches!(a, Action::ClockOff { clock: c } if *c == clock))
+        self.left().iter().any(|a| matches!(a, Action::ClockOff { clock: c } if *c == clock))
     }
 }
 

@@ -39,6 +39,10 @@ pub of_err : {A E : Type 0} (r : Result A E) {P : Type 0} → P → OnErr r P
 of_err (Ok x) p = tt
 of_err (Err e) p = p
 
+pub on_err : {A E : Type 0} (r : Result A E) {P Q : Type 0} → OnErr r P → (P → Q) → OnErr r Q
+on_err (Ok x) p f = tt
+on_err (Err e) p f = f p
+
 module _ {L : Type 0} where
   latest_total : IsTotalOrder (latest_first {L = L})
   latest_total = search (comparing, rules) depth 12

@@ -1,5 +1,5 @@
 -- Lanes side by side, and a first that stands ahead.
-use Rattle.std.proofs.Common.{◌≡◌, ℕ, ◌+◌, ◌<◌, ◌≤◌, ◌⊎◌, inl, inr, Bool, true, false, List, [], ◌∷◌, ◌++◌, Option, Some, None, zero, suc, refl, sym, ap, ◌∙◌, subst, arith, length, set, take, append_assoc, append-nil, cond, get_or, Result, Ok, Err, OnOk, OnErr}
+use Rattle.std.proofs.Common.{◌≡◌, ℕ, ◌+◌, ◌<◌, ◌≤◌, ◌⊎◌, inl, inr, Bool, true, false, not, List, [], ◌∷◌, ◌++◌, Option, Some, None, zero, suc, refl, sym, ap, ◌∙◌, subst, arith, length, set, take, append_assoc, append-nil, cond, get_or, Result, Ok, Err, OnOk, OnErr}
 use Rattle.std.proofs.lemmas.Bool.{false≢true}
 use Rattle.std.proofs.lemmas.List.{set-get_or}
 use Rattle.std.proofs.lemmas.List.Sorted.{IsPermutation-sym, IsPermutation-trans, IsPermutation-refl, IsPermutation-append_left, IsPermutation-append_right, IsPermutation-append_comm, IsPermutation-cons, IsPermutation-middle}
@@ -7,7 +7,7 @@ use Rattle.std.specs.List.Sorted.{IsPermutation}
 use Rattle.std.specs.Option.{option_to_list, IfSome, IfNone}
 use Rattle.std.proofs.lemmas.Option.{IfSome_then}
 use Rattle.ss_pending.specs.declared.filed.Filed.{Filed}
-use Rattle.ss_pending.specs.Filed.{is_before, In, FirstOf, Takes, leads, first_of, in_order, all, row, IsLeader, goes_ahead}
+use Rattle.ss_pending.specs.Filed.{is_before, In, FirstOf, HasFirst, Takes, leads, first_of, in_order, all, row, IsLeader, goes_ahead}
 use Rattle.ss_pending.proofs.Sorting.{asym, upper, upper_at, in_permutation}
 use Rattle.ss_pending.proofs.Lanes.{chain, in_left, taken_is_first, first_of_both}
 
@@ -214,6 +214,35 @@ module _ {L : Type 0} where
         let more : FirstOf best (all (take (i + 1) lanes)) = subst (λ b. FirstOf (cond b best first) (all (take (i + 1) lanes))) lead (best_more lanes i best first h f there) in
         subst (λ w. FirstOf w (all (take (i + 1) lanes)) × FirstOf w (row lanes place)) (sym q) (more, subst (λ k. FirstOf best (row lanes k)) (sym p) o)
 
+  not_leads : (x : Filed L) (o : Option (Filed L)) → goes_ahead x o ≡ true → false ≡ leads o (Some x)
+  not_leads x None h = refl
+  not_leads x (Some w) h = sym (ap not h)
+
+  leads_on : (x : Filed L) (o : Option (Filed L)) → goes_ahead x o ≡ false → true ≡ leads o (Some x)
+  leads_on x None h = absurd (false≢true (sym h))
+  leads_on x (Some w) h = sym (ap not h)
+
+  -- a lane's first goes ahead of the best so far, or doesn't, or the lane has nothing
+  module _ (lanes : List (List (Filed L))) (i : ℕ) (h : i < length lanes) (best o new : Option (Filed L)) (xs : List (Filed L)) (is : xs ≡ get_or lanes i xs) (f : FirstOf best (all (take i lanes))) (g : FirstOf o xs) (place : ℕ) where
+    pub best_ahead : (x : Filed L) → o ≡ Some x → (b : Bool) → b ≡ goes_ahead x best → b ≡ true → place ≡ i → new ≡ Some x → FirstOf new (all (take (i + 1) lanes)) × FirstOf new (row lanes place)
+    best_ahead x s b e k p q = best_new lanes i h best (Some x) new xs is f (subst (λ w. FirstOf w xs) s g) false (not_leads x best (sym e ∙ k)) place refl p q
+
+    pub best_behind : (x : Filed L) → o ≡ Some x → (b : Bool) → b ≡ goes_ahead x best → b ≡ false → (before : ℕ) → FirstOf best (row lanes before) → place ≡ before → new ≡ best → FirstOf new (all (take (i + 1) lanes)) × FirstOf new (row lanes place)
+    best_behind x s b e k before t p q = best_stays lanes i h best (Some x) new xs is f (subst (λ w. FirstOf w xs) s g) true (leads_on x best (sym e ∙ k)) place refl before t p q
+
+    pub best_alone : o ≡ None → (before : ℕ) → FirstOf best (row lanes before) → place ≡ before → new ≡ best → FirstOf new (all (take (i + 1) lanes)) × FirstOf new (row lanes place)
+    best_alone s before t p q =
+        let r : row lanes i ≡ [] = sym (is_row lanes i xs h is) ∙ subst (λ w. FirstOf w xs) s g in
+        let more : FirstOf best (all (take (i + 1) lanes)) = subst (FirstOf best) (sym (take_next lanes i h ∙ ap (λ w. all (take i lanes) ++ w) r ∙ append-nil (all (take i lanes)))) f in
+        subst (λ w. FirstOf w (all (take (i + 1) lanes)) × FirstOf w (row lanes place)) (sym q) (more, subst (λ k. FirstOf best (row lanes k)) (sym p) t)
+
+  -- the only lane leads
+  pub only_leads : (lanes : List (List (Filed L))) (i : ℕ) (ys : List (Filed L)) → length lanes ≤ 1 → i < length lanes → HasFirst ys → IsLeader i (set lanes i ys)
+  only_leads [] i ys n h f = absurd (omega arith)
+  only_leads (xs ∷ []) zero ys n h f = record { best = f.0; there = f.1; first = subst (FirstOf f.0) (sym (append-nil ys)) f.1 }
+  only_leads (xs ∷ []) (suc i) ys n h f = absurd (omega arith)
+  only_leads (xs ∷ zs ∷ more) i ys n h f = absurd (omega arith)
+
   pub all_pushed : (lanes new : List (List (Filed L))) (xs : List (Filed L)) → new ≡ lanes ++ xs ∷ [] → xs ≡ [] → all new ≡ all lanes
   all_pushed lanes new xs e n = ap all e ∙ all_push lanes xs ∙ ap (λ w. all lanes ++ w) n ∙ append-nil (all lanes)
 
@@ -357,3 +386,12 @@ module _ {L : Type 0} where
             lead_on : (w : Filed L) (best : Option (Filed L)) → FirstOf best (row lanes leader) → FirstOf best (all lanes) → FirstOf (Some w) (all lanes) → is_before x w ≡ false → IsLeader leader (set lanes place zs)
             lead_on w None u g f q = absurd (subst (In w) g f.is_there)
             lead_on w (Some y) u g f q = stays_first x lanes leader place zs h led put_in y u (chain y w x (upper_at y w (all lanes) g.first f.is_there) q)
+
+  -- what is put into the lane that leads leaves it the leader
+  pub leads_on_with : {A E : Type 0} (res : Result A E) (x : Filed L) (now : List (Filed L)) (old lanes : List (List (Filed L))) (leader place : ℕ) (ys zs : List (Filed L)) → all old ≡ now → all lanes ≡ all old → ((k : ℕ) → row lanes k ≡ row old k) → place < length lanes → IsLeader leader old → ys ≡ get_or lanes place ys → place ≡ leader → OnOk res (IsPermutation (x ∷ ys) zs) → OnErr res (zs ≡ ys) → IsLeader leader (set lanes place zs)
+  leads_on_with (Err u) x now old lanes leader place ys zs v a r h l e s p n = still_leads old lanes place leader ys zs a r l e n
+  leads_on_with (Ok u) x now old lanes leader place ys zs v a r h l e s p n = put (goes_ahead x l.best) refl
+    where
+      put : (b : Bool) → b ≡ goes_ahead x l.best → IsLeader leader (set lanes place zs)
+      put true t = subst (λ k. IsLeader k (set lanes place zs)) s (new_leader x l.best now old lanes leader place ys zs v a r h l e p (subst (FirstOf l.best) v l.first) true t refl)
+      put false t = old_leader x l.best now old lanes leader place ys zs v a r h l e p (subst (FirstOf l.best) v l.first) false t refl

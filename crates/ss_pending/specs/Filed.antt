@@ -75,6 +75,10 @@ module _ {L : Type 0} where
   FirstOf None xs = xs ≡ []
   FirstOf (Some x) xs = IsFirst x xs
 
+  -- there is a first, or nothing
+  abbrev pub HasFirst : List (Filed L) → Type 0
+  HasFirst xs = (o : Option (Filed L)) × FirstOf o xs
+
   -- the first of two
   abbrev pub leads : Option (Filed L) → Option (Filed L) → Bool
   leads None y = false

@@ -1,7 +1,7 @@
 //! A lane of which the first event is at hand.
 
 ghost use Rattle.std.specs.Prelude.{◌≡◌, [], ◌∷◌, ◌++◌, OnOk, OnErr, IfSome, IfNone, option_copied, IsPermutation};
-ghost use Rattle.ss_pending.specs.Filed.{FirstOf, Takes};
+ghost use Rattle.ss_pending.specs.Filed.{FirstOf, HasFirst, Takes};
 
 use crate::filed::Filed;
 use crate::lane::Lane;
@@ -51,6 +51,7 @@ impl<L> Ahead<L> {
     }
 
     /// Puts in an event. It fails only where no memory is left, and then changes nothing.
+    #[inline(always)]
     pub fn put(&mut self, filed: Filed<L>) -> Result<(), AllocError>
     where
         L: Copy + Drop,
@@ -64,7 +65,7 @@ impl<L> Ahead<L> {
             }
             Some(first) => {
                 if filed.is_before(&first) {
-                    self.rest.put(first)?;
+                    self.rest.put_aside(first)?;
                     self.first = Some(filed);
                     Ok(())
                 } else {
@@ -75,11 +76,13 @@ impl<L> Ahead<L> {
     }
 
     /// Takes the first event. It takes no memory.
+    #[inline(always)]
     pub fn take(&mut self) -> Option<Filed<L>>
     where
         L: Copy + Drop,
         ensures some { IfSome result (λ x. Takes x self.old self.new) }
         ensures none { IfNone result ((self.old ≡ []) × (self.new ≡ [])) }
+        ensures first { HasFirst self.new }
     {
         let first = self.first?;
         self.first = self.rest.take();

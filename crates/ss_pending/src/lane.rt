@@ -69,6 +69,7 @@ fn take_front<L>(run: &mut VecDeque<Filed<L>>) -> Option<Filed<L>>
 }
 
 /// Takes the first event of a heap.
+#[inline(never)]
 pub fn take_top<L>(heap: &mut BinaryHeap<Filed<L>>) -> Option<Filed<L>>
     requires { IsHeap latest_first (heap_items heap.old) }
     ensures some { IfSome result (λ x. Takes x (heap_items heap.old) (heap_items heap.new)) }
@@ -89,6 +90,7 @@ fn push_back<L: Drop>(run: &mut VecDeque<Filed<L>>, filed: Filed<L>) -> Result<(
 }
 
 // Puts an event into a heap.
+#[inline(never)]
 fn push<L: Drop>(heap: &mut BinaryHeap<Filed<L>>, filed: Filed<L>) -> Result<(), AllocError>
     requires { IsHeap latest_first (heap_items heap.old) }
     ensures ok { OnOk result (IsPermutation (filed ∷ heap_items heap.old) (heap_items heap.new)) }
@@ -158,6 +160,7 @@ impl<L> Lane<L> {
     }
 
     /// Puts in an event. It fails only where no memory is left, and then changes nothing.
+    #[inline(always)]
     pub fn put(&mut self, filed: Filed<L>) -> Result<(), AllocError>
     where
         L: Drop,
@@ -171,8 +174,32 @@ impl<L> Lane<L> {
         }
     }
 
+    /// Puts in an event as `put` does, where that is rare.
+    #[inline(never)]
+    pub fn put_aside(&mut self, filed: Filed<L>) -> Result<(), AllocError>
+    where
+        L: Drop,
+        ensures ok { OnOk result (IsPermutation (filed ∷ self.old) self.new) }
+        ensures err { OnErr result (self.new ≡ self.old) }
+    {
+        self.put(filed)
+    }
+
     /// Takes the first event. It takes no memory.
+    #[inline(always)]
     pub fn take(&mut self) -> Option<Filed<L>>
+        ensures some { IfSome result (λ x. Takes x self.old self.new) }
+        ensures none { IfNone result ((self.old ≡ []) × (self.new ≡ [])) }
+    {
+        if self.heap.is_empty() {
+            return take_front(&mut self.run);
+        }
+        self.take_either()
+    }
+
+    // Takes the first event, of the run or of the heap.
+    #[inline(never)]
+    fn take_either(&mut self) -> Option<Filed<L>>
         ensures some { IfSome result (λ x. Takes x self.old self.new) }
         ensures none { IfNone result ((self.old ≡ []) × (self.new ≡ [])) }
     {

@@ -6,7 +6,7 @@ ghost use Rattle.std.specs.BinaryHeap.{heap_items, IsHeap};
 ghost use Rattle.ss_model.specs.declared.Event.{Event};
 ghost use Rattle.ss_model.specs.Order.{insert, next_key, next_time, begins_before};
 ghost use Rattle.ss_pending.specs.Filed.{in_order, latest_first, AllBelow, Different, FirstOf, Takes};
-ghost use Rattle.ss_pending.specs.Loads.{all_loaded};
+ghost use Rattle.ss_pending.specs.Loads.{all_loaded, CanTake, freed};
 
 mod ahead;
 mod filed;
@@ -112,6 +112,16 @@ fn in_turn<L: Copy + Drop>(
     Ok(list)
 }
 
+// Takes back the load of an event that could not be put in.
+#[cold]
+#[inline(never)]
+fn put_back<L: Copy>(loads: &mut Loads<L>, place: Option<u32>)
+    requires { CanTake place loads.old }
+    ensures { loads.new ≡ freed place loads.old }
+{
+    unstore(loads, place);
+}
+
 impl<L> Pending<L> {
     /// No events. It takes no memory.
     pub fn new(alloc: Global) -> Self
@@ -157,7 +167,8 @@ impl<L> Pending<L> {
         };
         let sort = sort_of(event.key, self.last);
         let load = store(&mut self.loads, event.load)?;
-        let key = event.key;
+        let Key { time, class, line } = event.key;
+        let key = Key { time, class, line };
         let event = Event { key, load };
         match put(&mut self.queue, Filed { event, number }, sort) {
             Ok(()) => {
@@ -165,7 +176,7 @@ impl<L> Pending<L> {
                 Ok(())
             }
             Err(error) => {
-                unstore(&mut self.loads, load);
+                put_back(&mut self.loads, load);
                 Err(error)
             }
         }
@@ -178,18 +189,15 @@ impl<L> Pending<L> {
         ensures some { IfSome result (λ e. (self.old ≡ e ∷ self.new) × (e.key.time < time)) }
         ensures none { IfNone result ((begins_before time self.old ≡ false) × (self.new ≡ self.old)) }
     {
-        match first_key(&self.queue) {
-            Some(key) if key.time < time => match take(&mut self.queue) {
-                Some(first) => {
-                    let key = first.event.key;
-                    self.last = key.time;
-                    let load = unstore(&mut self.loads, first.event.load);
-                    Some(Event { key, load })
-                }
-                None => None,
-            },
-            _ => None,
+        let key = first_key(&self.queue)?;
+        if key.time >= time {
+            return None;
         }
+        let first = take(&mut self.queue)?;
+        let key = first.event.key;
+        self.last = key.time;
+        let load = unstore(&mut self.loads, first.event.load);
+        Some(Event { key, load })
     }
 
     /// A copy of the events, in order. It fails only where no memory is left.

@@ -41,6 +41,7 @@ impl<L> Loads<L> {
 
     /// Puts a load at a place at which nothing stands, and tells the place. It fails only where no memory is left, or
     /// where 2^32 - 1 loads stand already, and then changes nothing.
+    #[inline(always)]
     pub fn put(&mut self, load: L) -> Result<u32, AllocError>
     where
         L: Copy + Drop,
@@ -53,6 +54,18 @@ impl<L> Loads<L> {
             self.loads[place as usize] = load;
             return Ok(place);
         }
+        self.add(load)
+    }
+
+    // Puts a load behind all, where no place is free.
+    #[inline(never)]
+    fn add(&mut self, load: L) -> Result<u32, AllocError>
+    where
+        L: Copy + Drop,
+        requires { self.old.free ≡ [] }
+        ensures ok { IfOk result (λ place. Puts place load self.old self.new) }
+        ensures err { OnErr result (self.new ≡ self.old) }
+    {
         let place = self.loads.len();
         if place >= u32::MAX as usize {
             return Err(AllocError);

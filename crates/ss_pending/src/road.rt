@@ -5,7 +5,6 @@ ghost use Rattle.ss_pending.specs.Filed.{all, row, FirstOf, IsLeader, Takes, goe
 
 use crate::ahead::Ahead;
 use crate::filed::Filed;
-use crate::lane::leads;
 use std::alloc::{AllocError, Global};
 use std::marker::Model;
 
@@ -41,10 +40,11 @@ fn leader<L>(lanes: &[Ahead<L>]) -> usize
     let mut place = lanes.len();
     let mut best: Option<&Filed<L>> = None;
     for (i, lane) in lanes.iter().enumerate() {
-        let first = lane.first();
-        if !leads(best, first) {
-            best = first;
-            place = i;
+        if let Some(first) = lane.first() {
+            if goes_ahead(first, best) {
+                best = Some(first);
+                place = i;
+            }
         }
     }
     place
@@ -123,8 +123,11 @@ impl<L> Road<L> {
         ensures ok { OnOk result (IsPermutation (filed ∷ self.old) self.new) }
         ensures err { OnErr result (self.new ≡ self.old) }
     {
-        let leads = goes_ahead(&filed, self.first());
         let place = place_for(&mut self.lanes, self.alloc, sort)?;
+        if place == self.leader {
+            return self.lanes[place].put(filed);
+        }
+        let leads = goes_ahead(&filed, self.first());
         self.lanes[place].put(filed)?;
         if leads {
             self.leader = place;
@@ -143,7 +146,9 @@ impl<L> Road<L> {
             return None;
         }
         let taken = self.lanes[self.leader].take();
-        self.leader = leader(&self.lanes);
+        if self.lanes.len() > 1 {
+            self.leader = leader(&self.lanes);
+        }
         taken
     }
 

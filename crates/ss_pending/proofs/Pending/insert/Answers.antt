@@ -17,7 +17,7 @@ returns-in-Ok-clause-ok g c =
 
 pub returns-in-Err-clause-err : goal.returns-in-Err-clause-err
 returns-in-Err-clause-err g c =
-    ap (λ s. all_loaded s.loads (in_order c.put.new.queue)) c.unstore.ensures.left
+    ap (λ s. all_loaded s.loads (in_order c.put.new.queue)) c.put_back.ensures
     ∙ ap (λ q. all_loaded (freed c.in_ok-load.load c.store.new.loads).loads (in_order q)) c.in-Err.ensures.err
     ∙ back_list c.args.event.key (in_order c.self.inside.queue) c.self.inside.loads c.store.new.loads c.self.invariant.2 c.in_ok-load.load c.args.event.load c.in_ok-load.ensures.ok
     ∙ c.self.view_is

@@ -5,8 +5,8 @@ use Rattle.ss_pending.proofs.Stored.{first_takes, first_kept}
 use Rattle.ss_pending.proofs.Pending.take_before.Goals as goal
 
 pub unstore-load-requires : goal.unstore-load-requires
-unstore-load-requires g c = first_takes c.in-Some-take.first.event (in_order c.take.new.queue) c.self.inside.loads (subst (λ es. Kept es c.self.inside.loads) c.in-Some-take.ensures.some c.self.invariant.2)
+unstore-load-requires g c = first_takes c.in_ok-first.first.event (in_order c.take.new.queue) c.self.inside.loads (subst (λ es. Kept es c.self.inside.loads) c.in_ok-first.ensures.some c.self.invariant.2)
 
-pub invariant_of-self : goal.invariant_of-self
-invariant_of-self g c =
-    (c.in-Some-take.ensures.different, c.in-Some-take.ensures.below c.self.inside.next c.self.invariant.1, subst (Kept (in_order c.take.new.queue)) (sym c.unstore-load.ensures.left) (first_kept c.in-Some-take.first.event (in_order c.take.new.queue) c.self.inside.loads (subst (λ es. Kept es c.self.inside.loads) c.in-Some-take.ensures.some c.self.invariant.2)))
+pub invariant_of-self-2 : goal.invariant_of-self-2
+invariant_of-self-2 g c =
+    (c.in_ok-first.ensures.different, c.in_ok-first.ensures.below c.self.inside.next c.self.invariant.1, subst (Kept (in_order c.take.new.queue)) (sym c.unstore-load.ensures.left) (first_kept c.in_ok-first.first.event (in_order c.take.new.queue) c.self.inside.loads (subst (λ es. Kept es c.self.inside.loads) c.in_ok-first.ensures.some c.self.invariant.2)))
