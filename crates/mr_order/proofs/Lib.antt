@@ -7,3 +7,5 @@ pub mod Working
 pub mod Acting
 pub mod Running
 pub mod Numbering
+pub mod Landing
+pub mod Expecting

@@ -43,10 +43,10 @@ module _ {S L P F : Type 0} (kind : Kind S L) (allowed : Allowed S L) (ways : Wa
   none_here x f none r t i d (Receive {s = s} {d = e} p ch packet k h more) = none_here x f none s t i e more
 
   -- what was injected of a flow is numbered from 0, and the element at which it begins has counted it
-  record Numbered (f : F) (n : ℕ) : Type 0 where
-    from_zero : Counts numbering.number 0 (flow_only ways f (injected kind ways w xs most n))
-    sound : (c : ℕ) (x : S) → slice_get (after kind.handled w n (opening xs)).components c ≡ Some x → numbering.sound x ≡ true
-    counted : (c p ch : ℕ) (x : S) → slice_get (after kind.handled w n (opening xs)).components c ≡ Some x → ways.begins x f ≡ Some (p, ch) → numbering.count x f ≡ length (flow_only ways f (injected kind ways w xs most n))
+  pub record Numbered (f : F) (n : ℕ) : Type 0 where
+    pub from_zero : Counts numbering.number 0 (flow_only ways f (injected kind ways w xs most n))
+    pub sound : (c : ℕ) (x : S) → slice_get (after kind.handled w n (opening xs)).components c ≡ Some x → numbering.sound x ≡ true
+    pub counted : (c p ch : ℕ) (x : S) → slice_get (after kind.handled w n (opening xs)).components c ≡ Some x → ways.begins x f ≡ Some (p, ch) → numbering.count x f ≡ length (flow_only ways f (injected kind ways w xs most n))
 
   module _ (f : F) (n : ℕ) (stand : Stands kind allowed ways w xs most goal net n) (old : Numbered f n) (e : Event L) (rest : List (Event L)) (is : (after kind.handled w n (opening xs)).pending ≡ e ∷ rest) (early : e.key.time < 2 ^ 62)
       (c : ℕ) (why : Cause L) (x : S) (t : told w e ≡ Some (c, why)) (g : slice_get (after kind.handled w n (opening xs)).components c ≡ Some x) where
@@ -114,7 +114,7 @@ module _ {S L P F : Type 0} (kind : Kind S L) (allowed : Allowed S L) (ways : Wa
             ap (λ v. numbering.count v f) (sym is_new) ∙ all
         by_component count b q dh z (stays other is_old) bz = absurd (other (one_place c b p ch q dh x z g is_old some bz))
 
-  numbered : (f : F) (t n : ℕ) → t ≤ 2 ^ 62 → ((k : ℕ) → k < n → begins_before t (after kind.handled w k (opening xs)).pending ≡ true) → Numbered f n
+  pub numbered : (f : F) (t n : ℕ) → t ≤ 2 ^ 62 → ((k : ℕ) → k < n → begins_before t (after kind.handled w k (opening xs)).pending ≡ true) → Numbered f n
   numbered f t zero early each = record { from_zero = tt; sound = λ c x g. (zeros c x g).0; counted = λ c p ch x g b. (zeros c x g).1 p ch f b }
   numbered f t (suc n) early each =
       let s = after kind.handled w n (opening xs) in

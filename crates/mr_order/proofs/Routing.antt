@@ -85,6 +85,9 @@ decide_seat a b =
     join a b k n p c =
         ap (λ z. seat z a.component a.port a.channel) k ∙ ap (λ z. seat b.spot z a.port a.channel) n ∙ ap (λ z. seat b.spot b.component z a.channel) p ∙ ap (λ z. seat b.spot b.component b.port z) c
 
+other_spot : (x y : Seat) (k : ℕ) → number x.spot ≡ 0 → number y.spot ≡ suc k → x ≡ y → ⊥
+other_spot x y k i j e = let z : number x.spot ≡ number y.spot = ap (λ (s : Seat). number s.spot) e in absurd (omega (arith, i, j, z))
+
 module _ (w : Wiring) (route : ℕ → Option (ℕ × ℕ)) (d : ℕ) where
   abbrev Ends : ℕ → Type 0
   Ends n = (c p ch : ℕ) → IsWalk w route d n c → (a q dh : ℕ) → Stands (seat Input a q dh) (walk w route n c p ch) → route a ≡ None → a ≡ d
@@ -112,3 +115,9 @@ module _ (w : Wiring) (route : ℕ → Option (ℕ × ℕ)) (d : ℕ) where
       in_routed (Some (o, oh)) ih h (inl e) = absurd (not_output (seat Output c o oh) refl e)
       in_routed (Some (o, oh)) ih h (inr (inl e)) = absurd (not_wire (seat Wire c o oh) refl e)
       in_routed (Some (o, oh)) ih h (inr (inr k)) = ends_line n oh (goes w c o) ih h a q dh k r
+
+  -- so does one whose path comes to the place
+  pub path_ends : (s p ch n : ℕ) → GoesOn w route (IsWalk w route d n) (goes w s p) → (a q dh : ℕ) → Stands (seat Input a q dh) (path_from w route n s p ch) → route a ≡ None → a ≡ d
+  path_ends s p ch n h a q dh (inl e) r = absurd (other_spot (seat Input a q dh) (seat Output s p ch) 0 refl refl e)
+  path_ends s p ch n h a q dh (inr (inl e)) r = absurd (other_spot (seat Input a q dh) (seat Wire s p ch) 1 refl refl e)
+  path_ends s p ch n h a q dh (inr (inr k)) r = ends_line n ch (goes w s p) (ends_there n) h a q dh k r

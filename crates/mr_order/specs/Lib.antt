@@ -4,3 +4,4 @@ pub mod Paths
 pub mod Ways
 pub mod Runs
 pub mod Numbers
+pub mod Expected

@@ -3,6 +3,7 @@
 //! code: its definitions stand in `specs/`.
 #![tactic(auto)]
 
+ghost use Rattle.mr_order.specs.Expected.{RunsExpected};
 ghost use Rattle.mr_order.specs.Numbers.{RunsNumbered};
 ghost use Rattle.mr_order.specs.Runs.{RunsInOrder};
 
@@ -20,4 +21,11 @@ pub fn packets_stay_in_order<E: Local, P, F>()
 /// is numbered from 0, and so is what was delivered.
 pub fn packets_are_in_one_place<E: Local, P, F>()
     ensures { RunsNumbered P F E.kind E.allowed }
+{}
+
+/// Where each flow ends at the component at which its path does, and no element was delivered any packet yet: in each state of a run an
+/// element expects of each flow that ends there the number of its packets that were delivered; it delivered these itself, and told its
+/// statistics 0 for each, of packets out of order, and the flits of each, of packets received.
+pub fn packets_come_as_expected<E: Local, P, F>()
+    ensures { RunsExpected P F E.kind E.allowed }
 {}

@@ -2,8 +2,10 @@
 //! code: its definitions stand in `specs/`.
 #![tactic(auto)]
 
+ghost use Rattle.mr_wired.specs.Expecting.{NetworksExpectWhatComes};
 ghost use Rattle.mr_wired.specs.Pairs.{PairsLeadBack};
 ghost use Rattle.mr_wired.specs.Running.{NetworksRunInOrder};
+ghost use Rattle.mr_wired.specs.Stored.{StatisticsAreStored};
 ghost use Rattle.mr_wired.specs.Wired.{NetworksAreWired};
 
 use ss_safe::Local;
@@ -20,6 +22,19 @@ pub fn networks_are_wired<S, L, P>()
 /// and its packets are numbered from 0 in the order in which they were injected, and so in the order in which they are delivered.
 pub fn networks_run_in_order<E: Local, P>()
     ensures { NetworksRunInOrder P E.kind E.allowed }
+{}
+
+/// In each state of such a run, over elements that were delivered nothing at first: an endpoint expects of each flow to it the number of
+/// its packets that were delivered. The statistics in which it tells of them are those with which it began, with a 0 for each packet,
+/// of those out of order, and with the flits of each, of those received.
+pub fn networks_expect_what_comes<E: Local, P>()
+    ensures { NetworksExpectWhatComes P E.kind E.allowed }
+{}
+
+/// So where these statistics are accumulators that began with no values: of packets out of order the sum and the greatest value are 0;
+/// the packets received are counted, those that the endpoint delivered, and their flits summed up, as far as the fields go.
+pub fn statistics_are_stored<E: Local, P, F>()
+    ensures { StatisticsAreStored P F E.kind }
 {}
 
 /// Where lines come in pairs, one each way, and no two leave one port, each line leads back.

@@ -97,7 +97,7 @@ tick_count n now =
 
 -- ---- a generator's numbers
 
-above_get : (m : ℕ) (ks : List ℕ) → none_above m ks ≡ true → (d : ℕ) → get_or ks d 0 ≤ m
+pub above_get : (m : ℕ) (ks : List ℕ) → none_above m ks ≡ true → (d : ℕ) → get_or ks d 0 ≤ m
 above_get m [] h d = omega arith
 above_get m (k ∷ ks) h zero = le_of k m (both (nat_le k m) (none_above m ks) h).0
 above_get m (k ∷ ks) h (suc d) = above_get m ks (both (nat_le k m) (none_above m ks) h).1 d
@@ -117,7 +117,7 @@ above_set m m' v (k ∷ ks) (suc d) up small h =
     let l = le_of k m a.0 in
     and_true (nat_le k m') (none_above m' (set ks d v)) (of_le k m' (omega (arith, l, up))) (above_set m m' v ks d up small a.1)
 
-one_more : (n : ℕ) → n < 2 ^ 64 - 1 → next_number n ≡ n + 1
+pub one_more : (n : ℕ) → n < 2 ^ 64 - 1 → next_number n ≡ n + 1
 one_more n h = ap (λ b. cond b (n + 1) n) (of_lt n (2 ^ 64 - 1) h)
 
 -- ---- the packet that is made

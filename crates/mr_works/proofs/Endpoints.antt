@@ -108,20 +108,20 @@ inject_acts n now t d holds more = by_test (nat_lt n.sent n.total && nat_le n.fl
     by_test true h = Make 0 (next_packet n now).vn (next_packet n now) (begins_here n (next_packet n now) holds (next_is n now holds)) (make_packet n (next_packet n now) holds.whole (next_is n now holds).vn) h
     by_test false h = h
 
-record SameSide (s t : Side) : Type 0 where
-  inputs : t.inputs ≡ s.inputs
-  count : channels t ≡ channels s
+pub record SameSide (s t : Side) : Type 0 where
+  pub inputs : t.inputs ≡ s.inputs
+  pub count : channels t ≡ channels s
 
 -- what making a packet leaves
-record AfterMaking (n m : Endpoint) : Type 0 where
-  whole : IsWhole m.link
-  same : SameSide n.link m.link
+pub record AfterMaking (n m : Endpoint) : Type 0 where
+  pub whole : IsWhole m.link
+  pub same : SameSide n.link m.link
   free : m.link.line_free ≡ n.link.line_free
   id : m.id ≡ n.id
   peers : m.peers ≡ n.peers
   vns : m.vns ≡ n.vns
 
-injected_leaves : (n : Endpoint) (now : ℕ) → IsWhole n.link → AfterMaking n (injected n now)
+pub injected_leaves : (n : Endpoint) (now : ℕ) → IsWhole n.link → AfterMaking n (injected n now)
 unfolding injected
 injected_leaves n now whole = by_test (nat_lt n.sent n.total && nat_le n.flits (room (output n.link (next_packet n now).vn)))
   where
@@ -151,14 +151,14 @@ send_acts x a now t d whole more = at_sent (sent a.link now) refl more
           others = λ q dh other. append-nil (only_if (eqb 0 q) (only_if (eqb c dh) (pk ∷ []))) ∙ elsewhere q dh c pk other;
         }) h
 
-record AfterSending (a b : Endpoint) : Type 0 where
-  whole : IsWhole b.link
-  same : SameSide a.link b.link
+pub record AfterSending (a b : Endpoint) : Type 0 where
+  pub whole : IsWhole b.link
+  pub same : SameSide a.link b.link
   id : b.id ≡ a.id
   peers : b.peers ≡ a.peers
   vns : b.vns ≡ a.vns
 
-sent_leaves : (a : Endpoint) (now : ℕ) → IsWhole a.link → AfterSending a (sent_out a now).state
+pub sent_leaves : (a : Endpoint) (now : ℕ) → IsWhole a.link → AfterSending a (sent_out a now).state
 unfolding sent_out
 sent_leaves a now whole = record { whole = whole_departed a.link now (sent a.link now) whole; same = departed_same a.link now (sent a.link now); id = refl; peers = refl; vns = refl }
 
@@ -208,7 +208,7 @@ on_untouched : (u : Endpoint) (now vn j : ℕ) → j ≢ vn → input (received_
 unfolding received_on
 on_untouched u now vn j other = by_untouched u now vn j (head (input u.link vn)) other
 
-untouched : (m : Endpoint) (now k j : ℕ) → k ≤ j → input (received_to m now k).state.link j ≡ input m.link j
+pub untouched : (m : Endpoint) (now k j : ℕ) → k ≤ j → input (received_to m now k).state.link j ≡ input m.link j
 untouched m now zero j h = refl
 untouched m now (suc k) j h = on_untouched (received_to m now k).state now k j (λ e. absurd (omega (arith, e, h))) ∙ untouched m now k j (omega (arith, h))
 
@@ -234,7 +234,7 @@ all_leaves : (m : Endpoint) (now : ℕ) → IsWhole m.link → AfterReceiving m 
 unfolding received_all
 all_leaves m now whole = to_leaves m now (networks m) whole
 
-fronts_same : (s t : Side) (k : ℕ) → t.inputs ≡ s.inputs → fronts t k ≡ fronts s k
+pub fronts_same : (s t : Side) (k : ℕ) → t.inputs ≡ s.inputs → fronts t k ≡ fronts s k
 fronts_same s t zero e = refl
 fronts_same s t (suc k) e = ap (λ l. l ++ in_front (head (input t k))) (fronts_same s t k e) ∙ ap (λ (qs : List Row). fronts s k ++ in_front (head (row_at qs k))) e
 

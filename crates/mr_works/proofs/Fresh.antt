@@ -1,5 +1,5 @@
 -- Routers and endpoints that were made begin empty.
-use Rattle.std.proofs.Common.{◌≡◌, ℕ, zero, suc, ◌+◌, ◌-◌, ◌<◌, min, Bool, true, false, cond, List, [], ◌∷◌, length, replicate, get_or, Option, Some, None, refl, ap, ◌∙◌, arith}
+use Rattle.std.proofs.Common.{◌≡◌, ℕ, zero, suc, ◌+◌, ◌-◌, ◌*◌, ◌<◌, min, Bool, true, false, cond, List, [], ◌∷◌, length, replicate, get_or, Option, Some, None, refl, ap, ◌∙◌, arith}
 use Rattle.std.specs.Prelude.{nat_lt, ◌==◌, ◌&&◌, slice_index}
 use Rattle.std.proofs.lemmas.List.{length-replicate}
 use Rattle.mr_flow.specs.Queue.{Row, empty_row, row_at}
@@ -41,12 +41,27 @@ own_network n f p ch b =
     let one = both (f.src == n.id) (nat_lt f.dst n.peers && nat_lt f.vn n.vns) test in
     lt_of f.vn n.vns (both (nat_lt f.dst n.peers) (nat_lt f.vn n.vns) one.1).1
 
+zero_at : (n d : ℕ) → ◌≡◌ {A = ℕ} (get_or (replicate n 0) d 0) 0
+zero_at zero d = refl
+zero_at (suc n) zero = refl
+zero_at (suc n) (suc d) = zero_at n d
+
+-- a table of zeros, as long as it has to be
+has_zeros : (peers vns : ℕ) → (length {A = ℕ} (replicate (peers * vns) 0) == peers * vns) ≡ true
+has_zeros peers vns = of_eq (length {A = ℕ} (replicate (peers * vns) 0)) (peers * vns) (length-replicate (peers * vns) 0)
+
+expects_zero : (b : Bool) (n d : ℕ) → ◌≡◌ {A = ℕ} (cond b (slice_index (replicate n 0) d) 0) 0
+expects_zero true n d = zero_at n d
+expects_zero false n d = refl
+
 pub tests_begin_fresh : TestsBeginFresh
 tests_begin_fresh set messages flits verbose stats fits = record {
   inputs = λ p ch. ap (only_if (p == 0)) (empty_at _ set.input_flits ch) ∙ only_nil (p == 0);
   outputs = λ p ch. ap (only_if (p == 0)) (empty_at _ set.output_flits ch) ∙ only_nil (p == 0);
   sound = refl;
   zero_made = λ f p ch b. by_place f (own_network (test_nic set messages flits verbose stats) f p ch b) (nat_lt (place_of set.peers set.id f.dst) (set.peers - 1)) refl;
+  has_table = has_zeros set.peers set.vns;
+  zero_expected = λ f. expects_zero (nat_lt f.src set.peers && nat_lt f.vn set.vns) (set.peers * set.vns) (f.src * set.vns + f.vn);
 }
   where
     count : ℕ
@@ -65,17 +80,14 @@ none_above_zeros : (n : ℕ) → none_above 0 (replicate n 0) ≡ true
 none_above_zeros zero = refl
 none_above_zeros (suc n) = none_above_zeros n
 
-zero_at : (n d : ℕ) → ◌≡◌ {A = ℕ} (get_or (replicate n 0) d 0) 0
-zero_at zero d = refl
-zero_at (suc n) zero = refl
-zero_at (suc n) (suc d) = zero_at n d
-
 pub traffic_begins_fresh : TrafficBeginsFresh
 traffic_begins_fresh set pattern packets flits vn seed hot stats = record {
   inputs = λ p ch. ap (only_if (p == 0)) (empty_at _ set.input_flits ch) ∙ only_nil (p == 0);
   outputs = λ p ch. ap (only_if (p == 0)) (empty_at _ set.output_flits ch) ∙ only_nil (p == 0);
   sound = and_true (length (replicate set.peers 0) == set.peers) (none_above 0 (replicate set.peers 0)) (of_eq (length (replicate set.peers 0)) set.peers (length-replicate set.peers 0)) (none_above_zeros set.peers);
   zero_made = λ f p ch b. by_network f (f.vn == vn);
+  has_table = has_zeros set.peers set.vns;
+  zero_expected = λ f. expects_zero (nat_lt f.src set.peers && nat_lt f.vn set.vns) (set.peers * set.vns) (f.src * set.vns + f.vn);
 }
   where
     by_network : (f : Flow) (b : Bool) → cond b (slice_index (replicate set.peers 0) f.dst) 0 ≡ 0

@@ -7,3 +7,5 @@ pub mod Walking
 pub mod Counting
 pub mod EndpointNumbers
 pub mod Fresh
+pub mod Statistics
+pub mod Expecting

@@ -13,6 +13,8 @@ ghost use Rattle.mr_works.specs.Routers.{router_ways};
 ghost use Rattle.mr_works.specs.Endpoints.{endpoint_ways};
 ghost use Rattle.mr_order.specs.Numbers.{KindNumbers};
 ghost use Rattle.mr_works.specs.Numbers.{router_numbering, endpoint_numbering};
+ghost use Rattle.mr_order.specs.Expected.{KindExpects};
+ghost use Rattle.mr_works.specs.Expected.{router_expecting, endpoint_expecting, RoutersEndNone, EndpointsEndTheirs};
 ghost use Rattle.mr_works.specs.Walks.{WiredPathsEnd, RoutersFollow, EndpointsFollow};
 
 /// A router's calls move packets from the front of an input queue to the back of the output queue of their route, and from the front
@@ -48,6 +50,19 @@ pub fn endpoints_number_their_packets()
     ensures routers { KindNumbers router_kind router_allowed router_ways router_numbering }
 {}
 
+/// An endpoint that is delivered packets for it, numbered on from what it expects, expects as many more of each flow, and tells its
+/// statistics of each that it is not out of order and how many flits it has; to a router none is delivered.
+pub fn endpoints_expect_what_comes()
+    ensures endpoints { KindExpects endpoint_kind endpoint_allowed endpoint_ways endpoint_numbering endpoint_expecting }
+    ensures routers { KindExpects router_kind router_allowed router_ways router_numbering router_expecting }
+{}
+
+/// The flows that end at an endpoint are those to it; none ends at a router.
+pub fn flows_end_at_their_endpoints()
+    ensures routers { RoutersEndNone }
+    ensures endpoints { EndpointsEndTheirs }
+{}
+
 /// Flows leave a router by its topology's routes; they begin and end at their endpoints.
 #[tactic(auto, using(crate::proofs::Walking::routers_follow, crate::proofs::Walking::endpoints_follow))]
 pub fn flows_follow_the_topology()
@@ -55,7 +70,7 @@ pub fn flows_follow_the_topology()
     ensures endpoints { EndpointsFollow }
 {}
 
-/// Routers and endpoints that were made hold no packets, and endpoints have counted none.
+/// Routers and endpoints that were made hold no packets, and endpoints have counted none and expect each flow from 0 on.
 pub fn what_was_made_begins_fresh()
     ensures routers { RoutersBeginEmpty }
     ensures tests { TestsBeginFresh }
