@@ -6,11 +6,13 @@ use Rattle.ss_model.specs.Step.{State}
 use Rattle.std.proofs.lemmas.Grind.{flat_map-append}
 use Rattle.ss_model.specs.declared.Line.{Line}
 use Rattle.ss_element.specs.Kind.{Kind}
+use Rattle.ss_element.specs.Saving.{Saving}
 use Rattle.ss_run.specs.declared.RunSpec.{RunSpec}
 use Rattle.ss_run.specs.Meaning.{Meaning}
 use Rattle.ss_join.specs.declared.lead.LeadFault.{LeadFault}
 use Rattle.ss_join.specs.declared.lead.LeadFault.TheVariants as fault
-use Rattle.ss_join.specs.Cutting.{Given, Seen, Told, lines_of, refused_lines, refusing}
+use Rattle.ss_join.specs.Cutting.{Given, Seen, Told, lines_of, refused_lines, refused_cuts, refusing}
+use Rattle.ss_join.specs.Checkpoints.{IsCheckpoint, StandsIn, AreEarlier, AreCuts}
 use Rattle.ss_join.specs.Joined.{Saw, Breaks, none_refused, IsOutcome, run_lines}
 use Rattle.ss_model.specs.End.{Outcome, told_time}
 
@@ -54,8 +56,16 @@ module _ {S L : Type 0} (kind : Kind S L) (m : Meaning S L) (r : RunSpec) where
   saw_last cuts c e (Some a) mid new s t = last_some cuts c e a new (subst (λ x. Told (Err e) c x new) s t)
 
   -- what stands behind the accepted ones
-  pub breaks : (o : Outcome) → IsOutcome kind m r o → (cuts : List Given) (refused : Option Given) (ls : List Line) → lines_of cuts ++ refused_lines refused ≡ ls → (rest : List Line) × (ls ++ rest ≡ run_lines kind m r o) → Breaks kind m r cuts refused
-  breaks o is cuts refused ls e x = record { outcome = o; is = is; rest = x.0; lines = ap (λ l. l ++ x.0) e ∙ x.1 }
+  pub breaks : (saving : Saving S L) (o : Outcome) → IsOutcome kind m r o → (cuts : List Given) (refused : Option Given) (ls : List Line) → lines_of cuts ++ refused_lines refused ≡ ls → (rest : List Line) × (ls ++ rest ≡ run_lines kind m r o) →
+      (all : List Given) → cuts ++ refused_cuts refused ≡ all → AreCuts kind saving m r o [] all → ((t : ℕ) → IsCheckpoint kind m r o t → StandsIn kind m r all t ⊎ AreEarlier all t) → Breaks kind saving m r cuts refused
+  breaks saving o is cuts refused ls e x all same saves first = record {
+    outcome = o;
+    is = is;
+    rest = x.0;
+    lines = ap (λ l. l ++ x.0) e ∙ x.1;
+    saves = subst (AreCuts kind saving m r o []) (sym same) saves;
+    first_saves = subst (λ (cs : List Given). (t : ℕ) → IsCheckpoint kind m r o t → StandsIn kind m r cs t ⊎ AreEarlier cs t) (sym same) first;
+  }
 
 -- ---- the time that the final line tells
 

@@ -1,5 +1,5 @@
 -- The windows of a run, and the run of its one list.
-use Rattle.std.proofs.Common.{◌≡◌, ℕ, zero, suc, ◌+◌, ◌^◌, ◌<◌, ◌≤◌, List, [], ◌∷◌, ◌++◌, length, max, cond, eqb, refl, sym, ap, ◌∙◌, subst, arith, inl, inr, ◌⊎◌}
+use Rattle.std.proofs.Common.{◌≡◌, ℕ, zero, suc, ◌+◌, ◌^◌, ◌<◌, ◌≤◌, List, [], ◌∷◌, ◌++◌, length, max, cond, eqb, Option, refl, sym, ap, ◌∙◌, subst, arith, inl, inr, ◌⊎◌}
 use Rattle.std.specs.Prelude.{slice_index_or}
 use Rattle.std.specs.List.{flat_map, list_any}
 use Rattle.std.proofs.lemmas.Bool.{lt-ltb, cases_eq, eq-eqb, ne_eqb}
@@ -15,7 +15,7 @@ use Rattle.ss_element.specs.Kind.{Kind, behaviour}
 use Rattle.ss_element.specs.World as element
 use Rattle.ss_theory.specs.Queue.{insert_all, batches, range_from, top, IsKeyOrder}
 use Rattle.ss_theory.specs.World.{World, Global, before, line_before, time_of, HasBelow, NoneBelow, step, after, IsUntil, lines, last, last_at, last_for, Laws, Ready}
-use Rattle.ss_theory.specs.Rounds.{Moment}
+use Rattle.ss_theory.specs.Rounds.{Moment, CuttingLaws, end_at}
 use Rattle.ss_theory.proofs.Stable.{stable_sort, ordered_by_index}
 use Rattle.ss_theory.proofs.Steps.{by_order, ready_step}
 use Rattle.ss_theory.proofs.Theorems.{none_left, after_append, lines_append, last_top}
@@ -25,6 +25,7 @@ use Rattle.ss_theory.proofs.Bounds as bounds
 use Rattle.ss_parts.specs.Parts.{glob}
 use Rattle.ss_parts.specs.Division.{beginning, Leads, IsCutBy}
 use Rattle.ss_parts.specs.Windows.{KeepsBound}
+use Rattle.ss_parts.specs.Cutting.{cutting}
 use Rattle.ss_parts.proofs.Laws.{keys_in_order}
 use Rattle.ss_parts.proofs.Bridge.{until_same, until_back, lines_same, last_same}
 use Rattle.ss_parts.proofs.Windows as windows
@@ -32,6 +33,7 @@ use Rattle.ss_run.specs.declared.RunSpec.{RunSpec}
 use Rattle.ss_run.specs.Meaning.{Meaning, MeaningLaws}
 use Rattle.ss_run.specs.Run.{division, wires_of, start_of, limits, view, PartState, IsFitting, IsAt, window_end, known, IsPartDone, HasWindows}
 use Rattle.ss_worker.specs.Told.{IsLeft, IsLast}
+use Rattle.ss_worker.specs.Saves.{IsBehind}
 use Rattle.ss_worker.proofs.Course as course
 use Rattle.ss_join.specs.Joined.{IsOutcome, run_lines}
 use Rattle.ss_join.specs.Between.{AreWindowLines, IsGreatestLast}
@@ -130,6 +132,8 @@ module _ {S L : Type 0} (kind : Kind S L) (m : Meaning S L) (r : RunSpec) where
     pub below : AllBelow (view kind m r) o.bound steps (glob (start_of m r))
     pub whole : moment.whole ≡ after (view kind m r) steps (glob (start_of m r))
     pub printed : ls ≡ lines (view kind m r) steps (glob (start_of m r))
+    -- they are before each time that isn't before the end of the last of them
+    pub behind : (t : ℕ) → IsBehind kind m r k t → AllBelow (view kind m r) t steps (glob (start_of m r))
 
 -- ---- a run that fits
 
@@ -174,14 +178,14 @@ module _ {S L : Type 0} (kind : Kind S L) (Safe : Wiring → ℕ → State S L �
   cut_by : IsCutBy (limits m r) r.cuts (list_any kind.primary (start_of m r).components)
   cut_by = record { origin = f.origin; stop = omega (arith, f.stop_from); exit = f.exit }
 
-  keeps : KeepsBound kind (wires_of m r) (division r) (start_of m r) o.bound
+  pub keeps : KeepsBound kind (wires_of m r) (division r) (start_of m r) o.bound
   keeps = windows.keeps_bounds kind Safe rests (wires_of m r) (division r) (start_of m r) (course.may kind Safe rests m laws r f) (limits m r) o.agreed o.bound cut_by ran.bound
 
   abbrev Before : ℕ → List Line → Type 0
   Before = IsBefore kind m r o
 
   pub at_first : Before 0 []
-  at_first = record { moment = beginning kind (wires_of m r) (division r) (start_of m r); opened = refl; steps = 0; below = tt; whole = refl; printed = refl }
+  at_first = record { moment = beginning kind (wires_of m r) (division r) (start_of m r); opened = refl; steps = 0; below = tt; whole = refl; printed = refl; behind = λ t late. tt }
 
   ends : ℕ → ℕ → PartState kind m r
   ends k p = (course.end_of kind Safe rests m laws r f p k).0
@@ -203,6 +207,33 @@ module _ {S L : Type 0} (kind : Kind S L) (Safe : Wiring → ℕ → State S L �
       (λ q. (range_order r.partition.parts).1 (V.dst q) ∙ lt-ltb (V.dst q) r.partition.parts (windows.to kind Safe rests (wires_of m r) (division r) (start_of m r) (course.may kind Safe rests m laws r f) q))
       (λ p h. are_ends k p)
 
+  C : CuttingLaws (cutting (division r).look (division r).cuts) (division r).look (2 ^ 62)
+  C = windows.the_cuts kind Safe rests (wires_of m r) (division r) (start_of m r) (course.may kind Safe rests m laws r f)
+
+  -- a window doesn't end before the one before it
+  ends_grow : (h g : Moment (List S) (Event L)) → Leads kind (wires_of m r) (division r) (start_of m r) h g → window_end kind m r h ≤ window_end kind m r g
+  ends_grow h g l =
+      let up = bounds.up_known V SafeIn (division r).look (2 ^ 62) the_laws (windows.idle kind Safe rests (wires_of m r) (division r) (start_of m r) (course.may kind Safe rests m laws r f)) (windows.C kind Safe rests (wires_of m r) (division r) (start_of m r) (course.may kind Safe rests m laws r f)) C
+      (windows.start kind Safe rests (wires_of m r) (division r) (start_of m r) (course.may kind Safe rests m laws r f)) (windows.ready kind Safe rests (wires_of m r) (division r) (start_of m r) (course.may kind Safe rests m laws r f)) h g l in
+      go g.since g.whole.pending (subst (λ (x : Moment (List S) (Event L)). NoneBelow V (window_end kind m r h) x.whole.pending) (sym l.is) (none_then (window_end kind m r h) l.steps h.whole l.until)) up
+    where
+      none_then : (t n : ℕ) (s : Global (List S) (Event L)) → IsUntil V t n s → NoneBelow V t (after V n s).pending
+      none_then t zero s u = u
+      none_then t (suc n) s u = none_then t n (step V s) u.1
+
+      go : (x : Option ℕ) (xs : List (Event L)) → NoneBelow V (window_end kind m r h) xs → window_end kind m r h ≤ (cutting (division r).look (division r).cuts).known x → window_end kind m r h ≤ end_at V (windows.idle kind Safe rests (wires_of m r) (division r) (start_of m r) (course.may kind Safe rests m laws r f)) (cutting (division r).look (division r).cuts) x xs
+      go x [] none up = up
+      go x (e ∷ rest) none up = C.least (window_end kind m r h) e.key.time ((cutting (division r).look (division r).cuts).known x) none up
+
+  pub behind_back : (k t : ℕ) → IsBehind kind m r (suc k) t → IsBehind kind m r k t
+  behind_back zero t late = tt
+  behind_back (suc k) t late = λ h oh.
+      let next = (course.counted kind Safe rests m laws r f).moments (suc k) in
+      let e : h ≡ next.1.0 = course.one_moment kind Safe rests m laws r f k h next.1.0 oh next.1.1 in
+      let a = ends_grow next.1.0 next.0 next.1.2 in
+      let b = late next.0 next.1 in
+      subst (λ (x : Moment (List S) (Event L)). window_end kind m r x ≤ t) (sym e) (omega (arith, a, b))
+
   -- a window more
   pub one_more : (k : ℕ) (ls new : List Line) → Before k ls → IsLeft kind m r k → AreWindowLines kind m r k new → Before (suc k) (ls ++ new)
   one_more k ls new b left ws =
@@ -221,6 +252,7 @@ module _ {S L : Type 0} (kind : Kind S L) (Safe : Wiring → ℕ → State S L �
         steps = b.steps + l.steps;
         below = below_append V o.bound b.steps l.steps G b.below (subst (λ (x : Global (List S) (Event L)). AllBelow V o.bound l.steps x) whole (of_until V (window_end kind m r h) o.bound l.steps h.whole upto l.until));
         whole = ap (λ (x : Moment (List S) (Event L)). x.whole) l.is ∙ ap (after V l.steps) whole ∙ sym (after_append V SafeIn (division r).look (2 ^ 62) the_laws b.steps l.steps G);
+        behind = λ t late. below_append V t b.steps l.steps G (b.behind t (behind_back k t late)) (subst (λ (x : Global (List S) (Event L)). AllBelow V t l.steps x) whole (of_until V (window_end kind m r h) t l.steps h.whole (late h oh) l.until));
         printed = ap (λ x. x ++ new) b.printed ∙ ap (λ x. lines V b.steps G ++ x) (window_lines k h g oh l new ws ∙ ap (lines V l.steps) whole) ∙ sym (lines_append V SafeIn (division r).look (2 ^ 62) the_laws b.steps l.steps G);
       }
 

@@ -1,5 +1,5 @@
 -- Each run that fits has an outcome.
-use Rattle.std.proofs.Common.{◌≡◌, ℕ, zero, suc, ◌*◌, ◌<◌, ◌≤◌, ◌^◌, [], true, false, None, refl, sym, ap, ◌∙◌, subst, arith, ◌⊎◌, inl, inr}
+use Rattle.std.proofs.Common.{◌≡◌, ℕ, zero, suc, ◌*◌, ◌<◌, ◌≤◌, ◌^◌, true, false, refl, sym, ap, ◌∙◌, subst, arith, ◌⊎◌, inl, inr}
 use Rattle.std.proofs.lemmas.Bool.{cases_Bool}
 use Rattle.std.proofs.Math.Nat.{le-mul_of_pos_right, mul-le-mul_right}
 use Rattle.ss_model.specs.Wiring.{Wiring}
@@ -17,7 +17,7 @@ use Rattle.ss_run.specs.declared.RunSpec.{RunSpec}
 use Rattle.ss_run.specs.Meaning.{Meaning, MeaningLaws}
 use Rattle.ss_run.specs.Run.{division, wires_of, start_of, limits, view, IsFitting}
 use Rattle.ss_worker.proofs.Course as course
-use Rattle.ss_join.specs.Joined.{IsOutcome, run_lines, Breaks}
+use Rattle.ss_join.specs.Joined.{IsOutcome}
 
 -- ---- the first time at which the primaries agree, if there is one
 
@@ -124,6 +124,3 @@ module _ {S L : Type 0} (kind : Kind S L) (Safe : Wiring → ℕ → State S L �
   has_outcome =
       let fit = laws r.graph r.origin f.accepted in
       outcome (behaviour kind) (wires_of m r) (limits m r) (start_of m r) fit.fit.exit_period.least (λ t h. reach t (let e = end_is in omega (arith, h, e)))
-
-  pub breaks_at_once : Breaks kind m r [] None
-  breaks_at_once = let o = has_outcome in record { outcome = o.0; is = o.1; rest = run_lines kind m r o.0; lines = refl }

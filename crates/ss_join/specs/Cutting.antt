@@ -3,12 +3,16 @@ use Rattle.std.specs.Prelude.{◌≡◌, ℕ, ◌<◌, List, [], ◌∷◌, ◌+
 use Rattle.std.specs.List.{flat_map}
 use Rattle.ss_model.specs.declared.Line.{Line}
 use Rattle.ss_graph.specs.declared.fault.LimitKind.{LimitKind}
+use Rattle.ss_piece.specs.Pieces.{Slip}
 use Rattle.ss_join.specs.declared.lead.LeadFault.{LeadFault}
 use Rattle.ss_join.specs.declared.lead.LeadFault.TheVariants as fault
 
--- what a run handed out between two windows, or at its end: its lines since the cut before
+-- what a run handed out between two windows, or at its end: its lines since the cut before, and the times for which a
+-- checkpoint is asked then, with the pieces of all parts
 pub record Given : Type 0 where
   pub lines : List Line
+  pub saves : List ℕ
+  pub pieces : List Slip
 
 -- the cuts that a lead accepted, in order, and the one that it refused, if it refused one
 pub record Seen : Type 0 where
@@ -53,3 +57,7 @@ lines_of cuts = flat_map (λ c. c.lines) cuts
 abbrev pub refused_lines : Option Given → List Line
 refused_lines None = []
 refused_lines (Some c) = c.lines
+
+abbrev pub refused_cuts : Option Given → List Given
+refused_cuts None = []
+refused_cuts (Some c) = c ∷ []

@@ -1,3 +1,4 @@
 pub mod Cutting
+pub mod Checkpoints
 pub mod Joined
 pub mod Between

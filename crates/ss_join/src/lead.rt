@@ -6,6 +6,7 @@ ghost use Rattle.ss_join.specs.Cutting.{Seen, Told, Fails, limited};
 
 use ss_graph::LimitKind;
 use ss_model::Line;
+use ss_piece::Piece;
 use std::marker::Model;
 
 /// Why a lead refuses a cut.
@@ -19,18 +20,24 @@ pub enum LeadFault {
     NoMemory,
 }
 
-/// What a run hands out between two windows, or at its end: the lines that it printed since the cut before, in order.
+/// What a run hands out before its first window, between two windows, or at its end: the lines that it printed since the
+/// cut before, in order; the times, in picoseconds and ascending, for which a checkpoint is asked at this cut; and the
+/// pieces of all parts, in order, which make each of these checkpoints, where there is such a time.
 #[derive(Drop)]
 pub struct Cut {
     pub lines: Vec<Line>,
+    pub saves: Vec<u64>,
+    pub pieces: Vec<Piece>,
 }
 
 impl Model for Cut {
+    ghost use Rattle.std.specs.Prelude.{map};
+    ghost use Rattle.ss_piece.specs.Pieces.{slip};
     ghost use Rattle.ss_join.specs.Cutting.{Given};
 
     ghost Value = { Given };
 
-    ghost view = { λ c. record { lines = c.lines.items } };
+    ghost view = { λ c. record { lines = c.lines.items; saves = c.saves.items; pieces = map slip c.pieces.items } };
 }
 
 /// Who is handed the cuts of a run, one by one.

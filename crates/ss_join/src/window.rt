@@ -6,20 +6,65 @@ ghost use Rattle.ss_model.specs.End.{told_time, ended};
 ghost use Rattle.ss_element.specs.Kind.{behaviour};
 ghost use Rattle.ss_run.specs.Run.{IsFitting, HasWindows, wires_of, start_of};
 ghost use Rattle.ss_worker.specs.Place.{Place, AllStandAt};
+ghost use Rattle.ss_piece.specs.Pieces.{slip};
+ghost use Rattle.ss_run.specs.declared.RunSpec.{RunSpec};
 ghost use Rattle.ss_worker.specs.Told.{IsLeft};
+ghost use Rattle.ss_worker.specs.Saves.{AreFirst, IsSaveTime, MayOpen, ArePieces};
 ghost use Rattle.ss_join.specs.Between.{Point, AllBetween, IsReady, HasRun, AllRun, AreWindowLines, IsGreatestLast};
+ghost use Rattle.ss_join.specs.Checkpoints.{IsWindowCut, AreFirstPieces, IsOpening};
 ghost use Rattle.ss_join.specs.Joined.{IsOutcome};
 
 use crate::Ending;
 use crate::exchange::exchange;
 use crate::lead::Cut;
 use ss_merge::merge_lines;
-use ss_model::Line;
+use ss_piece::Piece;
 use ss_run::Simulated;
 use ss_worker::{Stage, Worker};
 use std::alloc::{AllocError, Global};
 use std::thread;
 use std::thread::Threads;
+
+// The pieces of all parts at the run's beginning, in order.
+fn first_pieces<E: Simulated>(
+    alloc: Global,
+    workers: &Vec<Worker<E>>,
+) -> Result<Vec<Piece>, AllocError>
+    ghost run: { RunSpec }
+    requires stand { AllStandAt run 0 workers.now.items }
+    requires may { MayOpen E.kind E.meaning run }
+    ensures { IfOk result (λ ps. AreFirstPieces E.kind E.saving E.meaning run (map slip ps.items)) }
+{
+    let mut pieces = Vec::new(alloc);
+    for worker in workers {
+        let piece = worker.opening_piece()?;
+        pieces.push(piece)?;
+    }
+    Ok(pieces)
+}
+
+/// What is to be handed out before the first window, where a checkpoint is asked for there. It fails only where no memory
+/// is left.
+pub fn opening<E: Simulated>(
+    alloc: Global,
+    workers: &Vec<Worker<E>>,
+) -> Result<Option<Cut>, AllocError>
+    ghost run: { RunSpec }
+    requires some { 1 ≤ run.partition.parts }
+    requires stand { AllStandAt run 0 workers.now.items }
+    ensures { IfOk result (λ o. IsOpening E.kind E.saving E.meaning run o) }
+{
+    let saves = workers[0].save_times()?;
+    if saves.is_empty() {
+        return Ok(None);
+    }
+    let pieces = first_pieces(alloc, workers)?;
+    Ok(Some(Cut {
+        lines: Vec::new(alloc),
+        saves,
+        pieces,
+    }))
+}
 
 // Runs a worker's next window. Whether it failed, the worker tells.
 fn run_window<E: Simulated>(worker: &mut Worker<E>)
@@ -59,24 +104,30 @@ fn any_failed<E: Simulated>(workers: &Vec<Worker<E>>) -> bool
     workers.iter().any(|worker| worker.failed())
 }
 
-// The lines of the last window, in the order of their keys.
-fn gather<E: Simulated>(
-    alloc: Global,
-    workers: &mut Vec<Worker<E>>,
-) -> Result<Vec<Line>, AllocError>
+// What is to be handed out behind the last window: its lines, in the order of their keys, and the times for which a
+// checkpoint is asked, with the parts' pieces.
+fn gather<E: Simulated>(alloc: Global, workers: &mut Vec<Worker<E>>) -> Result<Cut, AllocError>
     ghost at: { Point }
     requires some { 1 ≤ at.run.partition.parts }
     requires ran { 1 ≤ at.windows }
     requires between { AllBetween at at.run.partition.parts 0 workers.old.items }
-    ensures lines { IfOk result (λ lines. AreWindowLines E.kind E.meaning at.run (at.windows - 1) lines.items) }
+    ensures lines { IfOk result (λ cut. AreWindowLines E.kind E.meaning at.run (at.windows - 1) cut.lines) }
+    ensures saves { IfOk result (λ cut. AreFirst (IsSaveTime E.kind E.meaning at.run at.windows) 1025 cut.saves) }
+    ensures pieces { IfOk result (λ cut. ArePieces E.kind E.saving E.meaning at.run (at.windows - 1) cut.pieces) }
     ensures stand { OnOk result (AllStandAt at.run at.windows workers.new.items) }
 {
+    let saves = workers[0].save_times()?;
     let gathered = workers[0].gathered();
-    merge_lines(alloc, gathered.lines)
+    let lines = merge_lines(alloc, gathered.lines)?;
+    Ok(Cut {
+        lines,
+        saves,
+        pieces: gathered.pieces,
+    })
 }
 
 /// Runs a window of all parts, on at most `hosts` threads, and exchanges what they sent. It gives the lines that they
-/// printed, in the order of their keys. It fails only where no memory is left, and the workers may then only be let
+/// printed, in the order of their keys, and the checkpoints that are asked for before the next window. It fails only where no memory is left, and the workers may then only be let
 /// go.
 pub fn advance<T: Threads + Sync, E: Simulated + Send>(
     rt: &T,
@@ -91,7 +142,7 @@ where
     requires some { 1 ≤ at.run.partition.parts }
     requires stand { AllStandAt at.run at.windows workers.old.items }
     requires left { IsLeft E.kind E.meaning at.run at.windows }
-    ensures lines { IfOk result (λ cut. AreWindowLines E.kind E.meaning at.run at.windows cut.lines) }
+    ensures cut { IfOk result (λ cut. IsWindowCut E.kind E.saving E.meaning at.run at.windows cut) }
     ensures stand { OnOk result (AllStandAt at.run (at.windows + 1) workers.new.items) }
 {
     run_windows(rt, workers, hosts);
@@ -100,8 +151,7 @@ where
     }
     let parts = workers[0].run().partition.parts();
     exchange(workers, parts)?;
-    let lines = gather(alloc, workers)?;
-    Ok(Cut { lines })
+    gather(alloc, workers)
 }
 
 /// Whether an event is to come before the run's bound.

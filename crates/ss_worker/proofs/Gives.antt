@@ -42,7 +42,12 @@ map_set_any f [] i v = refl
 map_set_any f (x ∷ xs) zero v = refl
 map_set_any f (x ∷ xs) (suc i) v = ap (λ l. f x ∷ l) (map_set_any f xs i v)
 
-get_set_other : {A : Type 0} (xs : List A) (i j : ℕ) (v : A) → (j ≡ i → ⊥) → slice_get (slice_set xs i v) j ≡ slice_get xs j
+pub get_set_same : {A : Type 0} (xs : List A) (i : ℕ) (v : A) → i < length xs → slice_get (slice_set xs i v) i ≡ Some v
+get_set_same [] i v h = absurd (omega arith)
+get_set_same (x ∷ xs) zero v h = refl
+get_set_same (x ∷ xs) (suc i) v h = get_set_same xs i v (omega (arith, h))
+
+pub get_set_other : {A : Type 0} (xs : List A) (i j : ℕ) (v : A) → (j ≡ i → ⊥) → slice_get (slice_set xs i v) j ≡ slice_get xs j
 get_set_other [] i j v ne = refl
 get_set_other (x ∷ xs) zero zero v ne = absurd (ne refl)
 get_set_other (x ∷ xs) zero (suc j) v ne = refl

@@ -11,6 +11,8 @@ use Rattle.ss_model.specs.Order.{key_before, NoneBefore, IsSorted}
 use Rattle.ss_model.specs.Wiring.{Wiring}
 use Rattle.ss_model.specs.Step.{State}
 use Rattle.ss_element.specs.Kind.{Kind}
+use Rattle.ss_element.specs.Saving.{Saving}
+use Rattle.ss_window.specs.declared.Cuts.{Cuts}
 use Rattle.ss_element.specs.World as element
 use Rattle.ss_theory.specs.Queue.{IsOrdered, is_at, has}
 use Rattle.ss_theory.specs.World.{World, before, HasBelow, dst_of, take_in, part_last, IsPartUntil}
@@ -19,6 +21,7 @@ use Rattle.ss_theory.proofs.Sorted.{ordered_filter}
 use Rattle.ss_theory.proofs.Steps.{by_order}
 use Rattle.ss_theory.proofs.Rounds as on
 use Rattle.ss_parts.specs.Division.{part_idle}
+use Rattle.ss_piece.specs.Pieces.{Slip}
 use Rattle.ss_parts.proofs.Laws.{keys_in_order}
 use Rattle.ss_parts.proofs.Windows as windows
 use Rattle.ss_run.specs.declared.RunSpec.{RunSpec}
@@ -221,10 +224,10 @@ module _ {S L : Type 0} (kind : Kind S L) (Safe : Wiring → ℕ → State S L �
   -- ---- of a worker whose last window has nothing missing
 
   module _ (p k : ℕ) (hs ts : List Bool) (gathered : Bool) (w : Wiring) (ahead : ℕ) (body : Standing S L) (n : Known) (ls : List (List Line)) (i : IsSound kind m r p k hs ts gathered w ahead body n ls) (whole : all_set ts ≡ true) (x : Window) (next : IsNext kind m r k x) where
-    now : StandsWhole kind Safe rests m laws r f p k body.part n
+    pub now : StandsWhole kind Safe rests m laws r f p k body.part n
     now = stands kind Safe rests m laws r f p i.part k ts gathered ls body.part n i.knows whole
 
-    upto : x.upto ≡ window_end kind m r now.part.moment
+    pub upto : x.upto ≡ window_end kind m r now.part.moment
     upto = next.upto ∙ ap (window_end kind m r) (course.one_moment kind Safe rests m laws r f k next.left.moment now.part.moment next.left.opened now.part.opened)
 
     pub can_run : CanRunTo kind w r.partition.list p x.upto body
@@ -236,9 +239,15 @@ module _ {S L : Type 0} (kind : Kind S L) (Safe : Wiring → ℕ → State S L �
     pub went_then : Went (suc k)
     went_then = went_on k i.went next.left
 
-    module _ (new : Standing S L) (least : Option ℕ) (b : Bool) (lines : List Line) (bs : List (List (Event L))) (left : Leaves kind w r.partition.list p r.partition.parts x.upto body new least b lines bs) where
+    module _ (saving : Saving S L) (new : Standing S L) (least : Option ℕ) (b : Bool) (lines : List Line) (bs : List (List (Event L))) (o : Option Slip) (left : Leaves kind saving w r.partition.list p r.cuts r.partition.parts x.upto body new least b lines bs o) where
       runs : RunsTo kind (wires_of m r) r.partition.list p x.upto body left.ends
       runs = subst (λ y. RunsTo kind y r.partition.list p x.upto body left.ends) i.wires left.runs
+
+      pub ends_done : IsPartDone kind m r p k left.ends.part
+      ends_done = done p i.part k body left.ends x.upto now.part upto runs
+
+      pub ends_last : IsLast kind m r p (suc k) left.ends.last
+      ends_last = last p i.part k body left.ends x.upto now.part upto runs i.last
 
       sent_to : (q : ℕ) → q < r.partition.parts → slice_index_or bs q [] ≡ filter (is_at (dst_of V) q) left.ends.part.out
       sent_to q lt = let a = subst (λ y. AreBatches y r.partition.list r.partition.parts left.ends.part.out bs) i.wires left.batches in a.each q lt
@@ -261,9 +270,9 @@ module _ {S L : Type 0} (kind : Kind S L) (Safe : Wiring → ℕ → State S L �
         last = subst (λ z. IsLast kind m r p (suc k) z) (sym (ap (λ (s : Standing S L). s.last) left.rest)) (last p i.part k body left.ends x.upto now.part upto runs i.last);
       })
 
-pub leaves_same : {S L : Type 0} (kind : Kind S L) (w w' : Wiring) (os os' : List ℕ) (p n n' t : ℕ) (old new : Standing S L) (least : Option ℕ) (b : Bool) (ls : List Line) (bs : List (List (Event L))) → w ≡ w' → os ≡ os' → n ≡ n' → Leaves kind w os p n t old new least b ls bs → Leaves kind w' os' p n' t old new least b ls bs
-leaves_same kind w w' os os' p n n' t old new least b ls bs ew eo en x =
-    subst (λ y. Leaves kind y os' p n' t old new least b ls bs) ew (subst (λ y. Leaves kind w y p n' t old new least b ls bs) eo (subst (λ y. Leaves kind w os p y t old new least b ls bs) en x))
+pub leaves_same : {S L : Type 0} (kind : Kind S L) (saving : Saving S L) (w w' : Wiring) (os os' : List ℕ) (c c' : Cuts) (p n n' t : ℕ) (old new : Standing S L) (least : Option ℕ) (b : Bool) (ls : List Line) (bs : List (List (Event L))) (o : Option Slip) → w ≡ w' → os ≡ os' → c ≡ c' → n ≡ n' → Leaves kind saving w os p c n t old new least b ls bs o → Leaves kind saving w' os' p c' n' t old new least b ls bs o
+leaves_same kind saving w w' os os' c c' p n n' t old new least b ls bs o ew eo ec en x =
+    subst (λ y. Leaves kind saving y os' p c' n' t old new least b ls bs o) ew (subst (λ y. Leaves kind saving w y p c' n' t old new least b ls bs o) eo (subst (λ y. Leaves kind saving w os p y n' t old new least b ls bs o) ec (subst (λ y. Leaves kind saving w os p c y t old new least b ls bs o) en x)))
 
 pub not_over : {S L : Type 0} (kind : Kind S L) (Safe : Wiring → ℕ → State S L → Type 0) (rests : element.World kind Safe) (m : Meaning S L) (laws : MeaningLaws Safe m) (r : RunSpec) (f : IsFitting kind m r) (k : ℕ) → IsLeft kind m r k → HasWindows kind m r k → ⊥
 not_over {S} {L} kind Safe rests m laws r f k left over =

@@ -16,3 +16,5 @@ pub mod Gives
 pub mod Tolds
 pub mod Begins
 pub mod Dividing
+pub mod Dues
+pub mod Pieces

@@ -6,9 +6,12 @@ use Rattle.ss_model.specs.declared.Key.{Key}
 use Rattle.ss_model.specs.declared.Event.{Event}
 use Rattle.ss_model.specs.declared.Line.{Line}
 use Rattle.ss_element.specs.Kind.{Kind}
+use Rattle.ss_element.specs.Saving.{Saving}
+use Rattle.ss_piece.specs.Pieces.{Slip}
 use Rattle.ss_run.specs.declared.RunSpec.{RunSpec}
 use Rattle.ss_run.specs.Meaning.{Meaning}
 use Rattle.ss_worker.specs.Told.{Tells}
+use Rattle.ss_worker.specs.Saves.{Hands}
 
 coded_key : Coded Key
 coded_key = code_by (ℕ × (ℕ × ℕ)) (coded× coded_ℕ (coded× coded_ℕ coded_ℕ)) (λ k. (k.time, (k.class, k.line))) (λ p. record { time = p.0; class = p.1.0; line = p.1.1 }) (λ k. refl)
@@ -26,4 +29,14 @@ tells_of c kind m r giver taker number n b es ls t = record {
   done = λ l d. ∥∥₁_elim t (Coded-set coded_bool b _) (λ x. x.done l d);
   events = λ l d. ∥∥₁_elim t (Coded-set (coded_list (coded_event c)) es _) (λ x. x.events l d);
   lines = λ l d. ∥∥₁_elim t (Coded-set (coded_list coded_line) ls _) (λ x. x.lines l d);
+}
+
+coded_slip : Coded Slip
+coded_slip = code_by (List (ℕ × List ℕ) × (List (Key × List ℕ) × ℕ)) (coded× (coded_list (coded× coded_ℕ (coded_list coded_ℕ))) (coded× (coded_list (coded× coded_key (coded_list coded_ℕ))) coded_ℕ)) (λ s. (s.states, (s.events, s.last))) (λ p. record { states = p.0; events = p.1.0; last = p.1.1 }) (λ s. refl)
+
+pub hands_of : {S L : Type 0} (kind : Kind S L) (saving : Saving S L) (m : Meaning S L) (r : RunSpec) (giver taker number : ℕ) (o : Option Slip) → ∥ Hands kind saving m r giver taker number o ∥₁ → Hands kind saving m r giver taker number o
+hands_of kind saving m r giver taker number o t = record {
+  to_first = λ z h l u oh d due y w e x. ∥∥₁_elim t (Coded-set (coded_option coded_slip) o _) (λ a. a.to_first z h l u oh d due y w e x);
+  to_others = λ other. ∥∥₁_elim t (Coded-set (coded_option coded_slip) o _) (λ a. a.to_others other);
+  not_due = λ h l oh d none. ∥∥₁_elim t (Coded-set (coded_option coded_slip) o _) (λ a. a.not_due h l oh d none);
 }

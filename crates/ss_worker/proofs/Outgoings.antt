@@ -1,5 +1,5 @@
 -- What a part has for others, in the theory's words.
-use Rattle.std.proofs.Common.{◌≡◌, ℕ, zero, suc, ◌+◌, ◌<◌, ◌≤◌, inl, inr, List, [], ◌∷◌, ◌++◌, length, Bool, true, false, eqb, Option, Some, refl, sym, ap, ◌∙◌, subst, arith, map, cond, slice_index_or, if◌then◌else◌}
+use Rattle.std.proofs.Common.{◌≡◌, ℕ, zero, suc, ◌+◌, ◌<◌, ◌≤◌, inl, inr, List, [], ◌∷◌, ◌++◌, length, Bool, true, false, eqb, Option, Some, None, refl, sym, ap, ◌∙◌, subst, arith, map, cond, slice_index_or, if◌then◌else◌}
 use Rattle.std.specs.Prelude.{slice_get, slice_set, ◌==◌}
 use Rattle.std.proofs.lemmas.Bool.{cases_eq, eqb-true}
 use Rattle.std.proofs.lemmas.List.{get_or-set_other}
@@ -9,9 +9,12 @@ use Rattle.ss_model.specs.declared.Line.{Line}
 use Rattle.ss_model.specs.Order.{next_time}
 use Rattle.ss_model.specs.Wiring.{Wiring}
 use Rattle.ss_element.specs.Kind.{Kind}
+use Rattle.ss_element.specs.Saving.{Saving}
+use Rattle.ss_window.specs.declared.Cuts.{Cuts}
 use Rattle.ss_theory.specs.Rounds.{sooner}
 use Rattle.ss_theory.specs.Rounds as rounds
 use Rattle.ss_parts.specs.Division.{part_idle}
+use Rattle.ss_piece.specs.Pieces.{Slip}
 use Rattle.ss_run.specs.declared.RunSpec.{RunSpec}
 use Rattle.ss_run.specs.Meaning.{Meaning}
 use Rattle.ss_worker.specs.Standing.{Standing, standing, view, RunsTo}
@@ -19,8 +22,9 @@ use Rattle.ss_worker.specs.Batched.{AreBatches}
 use Rattle.ss_worker.specs.Outgoing.{earliest, Leaves, AreNamed}
 use Rattle.ss_worker.specs.Sound.{Name, named}
 use Rattle.ss_worker.specs.Told.{Tells}
+use Rattle.ss_worker.specs.Saves.{IsHanded, Hands}
 
-module _ {S L : Type 0} (kind : Kind S L) (w : Wiring) (owners : List ℕ) (p : ℕ) where
+module _ {S L : Type 0} (kind : Kind S L) (saving : Saving S L) (w : Wiring) (owners : List ℕ) (p : ℕ) where
   pub first_is : (xs : List (Event L)) → next_time xs ≡ rounds.first_time (view kind w owners p) xs
   first_is [] = refl
   first_is (e ∷ xs) = refl
@@ -29,11 +33,11 @@ module _ {S L : Type 0} (kind : Kind S L) (w : Wiring) (owners : List ℕ) (p : 
   earliest_is [] = refl
   earliest_is (e ∷ xs) = ap (sooner (Some e.key.time)) (earliest_is xs)
 
-  pub leaves : (parts t : ℕ) (old ends mid new : Standing S L) (least a b : Option ℕ) (es : List (Event L)) (xs : List (ℕ × S)) (done : Bool) (ls : List Line) (bs : List (List (Event L))) →
+  pub leaves : (c : Cuts) (o : Option Slip) (parts t : ℕ) (old ends mid new : Standing S L) (least a b : Option ℕ) (es : List (Event L)) (xs : List (ℕ × S)) (done : Bool) (ls : List Line) (bs : List (List (Event L))) →
       RunsTo kind w owners p t old ends → least ≡ sooner a b → a ≡ next_time ends.part.pending → b ≡ earliest es → es ≡ ends.part.out → done ≡ part_idle kind xs → xs ≡ ends.part.state → ls ≡ ends.part.says →
-      mid ≡ standing ends.part.state ends.part.pending ends.part.out [] ends.last → new ≡ standing mid.part.state mid.part.pending [] mid.part.says mid.last → AreBatches w owners parts mid.part.out bs →
-      Leaves kind w owners p parts t old new least done ls bs
-  leaves parts t old ends mid new least a b es xs done ls bs runs el ea eb ee ed ex el2 em en batches = record {
+      mid ≡ standing ends.part.state ends.part.pending ends.part.out [] ends.last → new ≡ standing mid.part.state mid.part.pending [] mid.part.says mid.last → AreBatches w owners parts mid.part.out bs → IsHanded saving c t least ends o →
+      Leaves kind saving w owners p c parts t old new least done ls bs o
+  leaves c o parts t old ends mid new least a b es xs done ls bs runs el ea eb ee ed ex el2 em en batches handed = record {
     ends = ends;
     runs = runs;
     rest = en ∙ ap (λ (s : Standing S L). standing s.part.state s.part.pending [] s.part.says s.last) em;
@@ -41,6 +45,7 @@ module _ {S L : Type 0} (kind : Kind S L) (w : Wiring) (owners : List ℕ) (p : 
     idle = ed ∙ ap (part_idle kind) ex;
     lines = el2;
     batches = subst (λ (s : Standing S L). AreBatches w owners parts s.part.out bs) em batches;
+    piece = handed;
   }
 
 -- the same told in other words
@@ -93,5 +98,15 @@ others_stay f bs i q v h = ap (λ l. slice_index_or l q []) (set_map f bs i v) �
 pub if_same : {X : Type 0} (q : ℕ) (a b : List X) → (q ≡ 0 → a ≡ b) → (if q == 0 then a else []) ≡ (if q == 0 then b else [])
 if_same {X} q a b h = go (eqb q 0) refl where
   go : (t : Bool) → eqb q 0 ≡ t → cond t a [] ≡ cond t b []
+  go true e = h (eqb-true q 0 e)
+  go false e = refl
+
+-- and handed over
+pub hands_same : {S L : Type 0} (kind : Kind S L) (saving : Saving S L) (m : Meaning S L) (r : RunSpec) (giver taker number : ℕ) (o o' : Option Slip) → o ≡ o' → Hands kind saving m r giver taker number o → Hands kind saving m r giver taker number o'
+hands_same kind saving m r giver taker number o o' e h = subst (Hands kind saving m r giver taker number) e h
+
+pub none_same : (q : ℕ) (a b : Option Slip) → (q ≡ 0 → a ≡ b) → (if q == 0 then a else None) ≡ (if q == 0 then b else None)
+none_same q a b h = go (eqb q 0) refl where
+  go : (t : Bool) → eqb q 0 ≡ t → cond t a None ≡ cond t b None
   go true e = h (eqb-true q 0 e)
   go false e = refl

@@ -7,5 +7,6 @@ pub mod Batched
 pub mod Place
 pub mod Told
 pub mod Sound
+pub mod Saves
 pub mod Outgoing
 pub mod Divided

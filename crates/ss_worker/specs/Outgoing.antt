@@ -4,22 +4,26 @@ use Rattle.ss_model.specs.declared.Event.{Event}
 use Rattle.ss_model.specs.declared.Line.{Line}
 use Rattle.ss_model.specs.Wiring.{Wiring}
 use Rattle.ss_element.specs.Kind.{Kind}
+use Rattle.ss_element.specs.Saving.{Saving}
+use Rattle.ss_window.specs.declared.Cuts.{Cuts}
 use Rattle.ss_theory.specs.Rounds.{sooner}
 use Rattle.ss_theory.specs.Rounds as rounds
 use Rattle.ss_parts.specs.Division.{part_idle}
+use Rattle.ss_piece.specs.Pieces.{Slip}
 use Rattle.ss_run.specs.declared.RunSpec.{RunSpec}
 use Rattle.ss_worker.specs.Standing.{Standing, standing, view, RunsTo}
 use Rattle.ss_worker.specs.Batched.{AreBatches}
 use Rattle.ss_worker.specs.Sound.{Name, named}
+use Rattle.ss_worker.specs.Saves.{IsHanded}
 
 -- the least time of events
 abbrev pub earliest : {L : Type 0} → List (Event L) → Option ℕ
 earliest [] = None
 earliest (e ∷ es) = sooner (Some e.key.time) (earliest es)
 
-module _ {S L : Type 0} (kind : Kind S L) (w : Wiring) (owners : List ℕ) (p : ℕ) where
-  -- a part has run to a time, and handed over what it sent and printed
-  pub record Leaves (parts t : ℕ) (old new : Standing S L) (least : Option ℕ) (done : Bool) (ls : List Line) (bs : List (List (Event L))) : Type 0 where
+module _ {S L : Type 0} (kind : Kind S L) (saving : Saving S L) (w : Wiring) (owners : List ℕ) (p : ℕ) where
+  -- a part has run to a time, and handed over what it sent and printed, and its piece where a checkpoint is due
+  pub record Leaves (c : Cuts) (parts t : ℕ) (old new : Standing S L) (least : Option ℕ) (done : Bool) (ls : List Line) (bs : List (List (Event L))) (o : Option Slip) : Type 0 where
     pub ends : Standing S L
     pub runs : RunsTo kind w owners p t old ends
     pub rest : new ≡ standing ends.part.state ends.part.pending [] [] ends.last
@@ -27,6 +31,7 @@ module _ {S L : Type 0} (kind : Kind S L) (w : Wiring) (owners : List ℕ) (p : 
     pub idle : done ≡ part_idle kind ends.part.state
     pub lines : ls ≡ ends.part.says
     pub batches : AreBatches w owners parts ends.part.out bs
+    pub piece : IsHanded saving c t least ends o
 
 -- the names of the batches that go to all parts below a number but the giver
 pub record AreNamed (r : RunSpec) (p number upto : ℕ) (names : List (Option Name)) : Type 0 where

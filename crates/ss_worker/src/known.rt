@@ -1,12 +1,18 @@
 //! What a part knows of its run.
 
-ghost use Rattle.std.specs.Prelude.{◌≡◌, ◌≤◌, ◌^◌, ◌||◌, is_some, if◌then◌else◌};
-ghost use Rattle.ss_window.specs.Cuts.{IsSpan, CutsFit};
+ghost use Rattle.std.specs.Prelude.{◌≡◌, ◌≤◌, ◌^◌, ◌||◌, is_some, if◌then◌else◌, IfOk};
+ghost use Rattle.ss_window.specs.Cuts.{IsSpan, IsTime, CutsFit};
+ghost use Rattle.ss_window.specs.Least.{IsFirst};
 ghost use Rattle.ss_theory.specs.Rounds.{sooner as sooner_of};
 ghost use Rattle.ss_worker.specs.Knowing.{KnownFits, since_of, bound_of, next_window, hearing, behind as behind_of, agrees_by};
+ghost use Rattle.ss_worker.specs.Saves.{AreFirst, IsKnownSave};
 
 use crate::stage::Window;
-use ss_window::{Cuts, next_cut, stop_bound};
+use ss_window::{Cuts, next_cut, next_save, stop_bound};
+use std::alloc::{AllocError, Global};
+
+/// The most checkpoint times that are told at once.
+const MOST_SAVES: u32 = 1025;
 
 /// What a part knows of its run beside its own state. Times are in picoseconds.
 #[derive(Clone, Copy)]
@@ -91,6 +97,40 @@ impl Known {
             next,
             idle,
         }
+    }
+
+    /// The first checkpoint time that isn't before a time, if it isn't after the first event that is to come and is below
+    /// the bound.
+    pub fn save_from(&self, from: u64, cuts: &Cuts) -> Option<u64>
+        requires fits { KnownFits self.now cuts.now }
+        requires from { IsTime from }
+        ensures { IsFirst (IsKnownSave cuts.now self.now from) result }
+    {
+        let next = self.next?;
+        let save = next_save(from, cuts)?;
+        if save <= next && save < self.bound(cuts) {
+            Some(save)
+        } else {
+            None
+        }
+    }
+
+    /// The first of these checkpoint times, in ascending order: all, or 1,025. It fails only where no memory is left.
+    pub fn saves(&self, alloc: Global, from: u64, cuts: &Cuts) -> Result<Vec<u64>, AllocError>
+        requires fits { KnownFits self.now cuts.now }
+        requires from { IsTime from }
+        ensures { IfOk result (λ ts. AreFirst (IsKnownSave cuts.now self.now from) 1025 ts.items) }
+    {
+        let mut times = Vec::new(alloc);
+        let mut at = from;
+        for _ in 0..MOST_SAVES {
+            let Some(save) = self.save_from(at, cuts) else {
+                return Ok(times);
+            };
+            times.push(save)?;
+            at = save + 1;
+        }
+        Ok(times)
     }
 
     /// Whether the run's bound is one at which the primaries agree to end.

@@ -22,6 +22,7 @@ use out::sort_out;
 use ss_element::{Acts, Element, Wires};
 use ss_model::{Event, Line};
 use ss_pending::Pending;
+use ss_piece::{Piece, piece_of};
 pub use stage::{Stage, Window};
 use std::alloc::{AllocError, Global};
 use std::marker::Model;
@@ -64,6 +65,7 @@ fn insert_events<L: Copy + Drop>(
 impl<E: Element> Part<E> {
     ghost use Rattle.ss_worker.specs.Standing.{standing, stepped, CanRunTo, Runs, RunsTo};
     ghost use Rattle.ss_worker.specs.Batched.{AreBatches};
+    ghost use Rattle.ss_piece.specs.Pieces.{slip, piece_slip};
 
     /// A part with these elements, each with its number, and these events. The numbers are below `count`, and
     /// `last` is the time of the last handled event, in picoseconds. It fails only where no memory is left.
@@ -132,6 +134,26 @@ impl<E: Element> Part<E> {
     {
         let out = self.take_out();
         sort_out(self.alloc, wires, owners, parts, out)
+    }
+
+    // The events that are to come, in order, and behind them those that were sent to other parts since they were taken
+    // last, in the order of sending.
+    fn events(&self) -> Result<Vec<Event<E::Load>>, AllocError>
+        ensures { IfOk result (λ v. v.items ≡ self.now.part.pending ++ self.now.part.out) }
+    {
+        let mut events = self.mail.pending.list()?;
+        events.extend_from_slice(&self.mail.out)?;
+        Ok(events)
+    }
+
+    /// What the part hands over of itself for a checkpoint: what it sent to other parts since this was taken last
+    /// counts as its own. The start event of each of its elements was handled. It fails only where no memory is left.
+    pub fn piece(&self) -> Result<Piece, AllocError>
+        requires begun { All (λ x. E.kind.begun x.1 ≡ true) self.now.part.state }
+        ensures { IfOk result (λ p. slip p ≡ piece_slip E.saving self.now.part.state (self.now.part.pending ++ self.now.part.out) self.now.last) }
+    {
+        let events = self.events()?;
+        piece_of(self.alloc, self.elements(), &events, self.last)
     }
 
     /// The lines that were printed since they were taken last, in the order in which they were printed.

@@ -1,7 +1,8 @@
 //! A part of a run, window by window.
 
 ghost use Rattle.std.specs.Prelude.{◌≡◌, ◌≢◌, ◌<◌, ◌≤◌, ◌-◌, false, slice_index_or, if◌then◌else◌, true, map, length, slice_set, IfOk, OnOk, MatchResult};
-ghost use Rattle.std.specs.Prelude.{slice_index, filter, replicate};
+ghost use Rattle.std.specs.Prelude.{slice_index, slice_get, filter, replicate, ℕ, [], Some, option_map, ◌==◌};
+ghost use Rattle.ss_window.specs.Least.{IsFirst};
 ghost use Rattle.ss_model.specs.Order.{next_time};
 ghost use Rattle.ss_theory.specs.Queue.{is_at};
 ghost use Rattle.ss_parts.specs.Parts.{components_of};
@@ -12,15 +13,18 @@ ghost use Rattle.ss_worker.specs.Place.{first, after_window, after_out, after_in
 ghost use Rattle.ss_worker.specs.Told.{IsLeft, IsStage, IsNextOrOver, AreElements, AreSent, IsLast, IsTold, AreLines};
 ghost use Rattle.ss_worker.specs.Outgoing.{HasFirst};
 ghost use Rattle.ss_worker.specs.Sound.{named};
+ghost use Rattle.ss_piece.specs.Pieces.{Slip, slip};
+ghost use Rattle.ss_worker.specs.Saves.{AreFirst, MayOpen, IsSaveTime, IsFirstPieceOf, ArePieces};
 
 use crate::Part;
 use crate::batch::Batch;
 use crate::known::Known;
-use crate::outgoing::{batches_of, run_window};
+use crate::outgoing::{batches_of, piece_for, run_window};
 use crate::stage::{Stage, Window};
 use ss_element::Wires;
 use ss_model::{Event, Line};
 use ss_part::lookahead;
+use ss_piece::Piece;
 use ss_run::{RunId, Simulated};
 use std::alloc::{AllocError, Global};
 use std::marker::Model;
@@ -87,10 +91,59 @@ fn put_lines(lists: &mut Vec<Vec<Line>>, place: u32, lines: Vec<Line>)
     }
 }
 
-/// The lines of a window, a list for each part, in order.
+// Makes room for a piece of each part, in part 0.
+fn make_room(
+    alloc: Global,
+    part: u32,
+    parts: u32,
+    pieces: &mut Vec<Piece>,
+) -> Result<(), AllocError>
+    ensures { OnOk result (part ≡ 0 → length pieces.new.items ≡ parts) }
+{
+    pieces.clear();
+    if part == 0 {
+        for _ in 0..parts {
+            pieces.push(Piece {
+                states: Vec::new(alloc),
+                events: Vec::new(alloc),
+                last: 0,
+            })?;
+        }
+    }
+    Ok(())
+}
+
+// Puts the piece of a part in its place, where pieces are kept.
+fn put_piece(pieces: &mut Vec<Piece>, place: u32, piece: Option<Piece>)
+    ensures count { length pieces.new.items ≡ length pieces.old.items }
+    ensures there { (s : Slip) → place < length pieces.old.items → option_map slip piece ≡ Some s → slice_get (map slip pieces.new.items) place ≡ Some s }
+    ensures others { (j : ℕ) → j ≢ place → slice_get (map slip pieces.new.items) j ≡ slice_get (map slip pieces.old.items) j }
+{
+    if let Some(piece) = piece {
+        if (place as usize) < pieces.len() {
+            pieces[place as usize] = piece;
+        }
+    }
+}
+
+// All pieces where they are due, else none.
+fn take_pieces(alloc: Global, due: bool, pieces: &mut Vec<Piece>) -> Vec<Piece>
+    ensures due { due ≡ true → result.items ≡ pieces.old.items }
+    ensures not_due { due ≡ false → result.items ≡ [] }
+{
+    if due {
+        mem::replace(pieces, Vec::new(alloc))
+    } else {
+        Vec::new(alloc)
+    }
+}
+
+/// The lines of a window, a list for each part, in order; and the pieces of the parts, in order, where a checkpoint is
+/// asked for before the next window, else none.
 #[derive(Drop)]
 pub struct Gathered {
     pub lines: Vec<Vec<Line>>,
+    pub pieces: Vec<Piece>,
 }
 
 /// The worker of one part of a run: the part's elements and events, and what it knows of the run. Contracts see
@@ -114,6 +167,8 @@ pub struct Worker<E: Simulated> {
     batches: Vec<Option<Batch<E>>>,
     sent: Vec<u128>,
     lines: Vec<Vec<Line>>,
+    ended: u64,
+    pieces: Vec<Piece>,
 }
 
 impl<E: Simulated> Model for Worker<E> {
@@ -121,6 +176,8 @@ impl<E: Simulated> Model for Worker<E> {
     ghost use Rattle.std.specs.Arc.{arc_value};
     ghost use Rattle.ss_worker.specs.Place.{Place};
     ghost use Rattle.ss_worker.specs.Sound.{IsSound, HasBatches, HasSent, named};
+    ghost use Rattle.ss_worker.specs.Saves.{HasSaves};
+    ghost use Rattle.ss_piece.specs.Pieces.{slip};
 
     ghost Value = { Place };
 
@@ -129,7 +186,8 @@ impl<E: Simulated> Model for Worker<E> {
     ghost invariant = { λ w. w.failed ≡ false →
         IsSound E.kind E.meaning (arc_value w.run) w.part w.windows w.handed.items w.taken.items w.gathered (arc_value w.wires) w.look w.body w.known (map (λ ls. ls.items) w.lines.items)
         × HasBatches E.kind E.meaning (arc_value w.run) w.part w.windows w.handed.items (map (λ b. option_map (λ b. named (arc_value b.run) b.giver b.taker b.number) b) w.batches.items)
-        × HasSent E.kind E.meaning (arc_value w.run) w.part w.windows w.handed.items w.sent.items };
+        × HasSent E.kind E.meaning (arc_value w.run) w.part w.windows w.handed.items w.sent.items
+        × HasSaves E.kind E.saving E.meaning (arc_value w.run) w.part w.windows w.taken.items w.gathered w.ended (map slip w.pieces.items) };
 }
 
 impl<E: Simulated> Worker<E> {
@@ -171,6 +229,7 @@ impl<E: Simulated> Worker<E> {
             next: least,
             idle: done,
         };
+        let ended = run.cuts.origin;
         Ok(Worker {
             alloc,
             run,
@@ -187,6 +246,8 @@ impl<E: Simulated> Worker<E> {
             batches: Vec::new(alloc),
             sent,
             lines: Vec::new(alloc),
+            ended,
+            pieces: Vec::new(alloc),
         })
     }
 
@@ -261,9 +322,14 @@ impl<E: Simulated> Worker<E> {
             self.part,
             parts,
             window.upto,
+            &self.run.cuts,
         )?;
         self.known = self.known.behind(outgoing.next, outgoing.idle);
+        self.ended = window.upto;
         self.lines = first_lines(self.alloc, self.part, parts, &mut outgoing.lines)?;
+        make_room(self.alloc, self.part, parts, &mut self.pieces)?;
+        let own = piece_for(self.part, &mut outgoing.piece);
+        put_piece(&mut self.pieces, self.part, own);
         self.batches = batches_of(
             self.alloc,
             &self.run,
@@ -313,29 +379,65 @@ impl<E: Simulated> Worker<E> {
             done,
             events,
             lines,
+            piece,
         } = batch;
         self.failed = true;
         self.body.take_in(events)?;
         self.known.hear(next, done);
         put_lines(&mut self.lines, giver, lines);
+        put_piece(&mut self.pieces, giver, piece);
         self.taken[giver as usize] = true;
         self.failed = false;
         Ok(())
     }
 
-    /// The lines of its last window, a list for each part, in order. Only the worker of part 0 has them, once for
-    /// each window, before it runs the next. It takes no memory.
+    // The first checkpoint time before the next window, if there is one.
+    fn first_save(&self) -> Option<u64>
+        requires { IsWhole self.now }
+        ensures { IsFirst (IsSaveTime E.kind E.meaning self.now.run self.now.windows) result }
+    {
+        self.known.save_from(self.ended, &self.run.cuts)
+    }
+
+    /// The times before the next window at which checkpoints are asked for, in ascending order: all, or the first 1,025.
+    /// None of them is before the end of the last window or the run's beginning, nor after the first event that is to
+    /// come in any part, and each is below the bound. They are times at which the run is as it is now. It fails only
+    /// where no memory is left.
+    pub fn save_times(&self) -> Result<Vec<u64>, AllocError>
+        requires { IsWhole self.now }
+        ensures { IfOk result (λ ts. AreFirst (IsSaveTime E.kind E.meaning self.now.run self.now.windows) 1025 ts.items) }
+    {
+        self.known.saves(self.alloc, self.ended, &self.run.cuts)
+    }
+
+    /// The part's piece of the run's beginning, in a run that goes on from what was saved, or in which a checkpoint is
+    /// asked for before its first event. It fails only where no memory is left.
+    pub fn opening_piece(&self) -> Result<Piece, AllocError>
+        requires alive { self.now.failed ≡ false }
+        requires first { self.now.windows ≡ 0 }
+        requires saved { MayOpen E.kind E.meaning self.now.run }
+        ensures { IfOk result (λ p. IsFirstPieceOf E.kind E.saving E.meaning self.now.run self.now.part (Some (slip p))) }
+    {
+        self.body.piece()
+    }
+
+    /// The lines of its last window, a list for each part, in order, and the parts' pieces, in order, where
+    /// `save_times` has any time, else none. Only the worker of part 0 has them, once for each window, before it runs
+    /// the next. It takes no memory.
     pub fn gathered(&mut self) -> Gathered
         requires part { self.old.part ≡ 0 }
         requires whole { IsWhole self.old }
         requires ran { 1 ≤ self.old.windows }
         requires fresh { self.old.gathered ≡ false }
         ensures lines { AreLines E.kind E.meaning self.old.run (self.old.windows - 1) (map (λ ls. ls.items) result.lines.items) }
+        ensures pieces { ArePieces E.kind E.saving E.meaning self.old.run (self.old.windows - 1) (map slip result.pieces.items) }
         ensures state { self.new ≡ after_gathering self.old }
     {
+        let due = self.first_save().is_some();
         self.gathered = true;
         let lines = mem::replace(&mut self.lines, Vec::new(self.alloc));
-        Gathered { lines }
+        let pieces = take_pieces(self.alloc, due, &mut self.pieces);
+        Gathered { lines, pieces }
     }
 
     /// Where the run is over, the time of its bound, in picoseconds, if an event of any part is still to come or if

@@ -1,9 +1,12 @@
-use Rattle.std.proofs.Common.{◌≡◌, ◌+◌, false, sym, subst, ◌∙◌, ap, arith}
+use Rattle.std.proofs.Common.{◌≡◌, ◌+◌, ◌-◌, false, sym, subst, ◌∙◌, ap, arith, add-one}
 use Rattle.std.specs.Prelude.{slice_index_or}
 use Rattle.std.specs.List.{list_any}
 use Rattle.ss_run.specs.declared.RunSpec.{RunSpec}
 use Rattle.ss_worker.specs.Told.{IsLeft}
-use Rattle.ss_join.specs.Between.{AllBetween}
+use Rattle.ss_worker.specs.Saves.{AreFirst, IsSaveTime, ArePieces}
+use Rattle.ss_join.specs.Between.{AllBetween, AreWindowLines}
+use Rattle.ss_join.specs.Checkpoints.{IsWindowCut}
+use Rattle.ss_join.proofs.Checkpoints.{all_ok}
 use Rattle.ss_join.proofs.Mixed.{stands_of, all_ran, found}
 use Rattle.ss_join.proofs.window.advance.Goals as goal
 
@@ -32,3 +35,19 @@ gather-requires g c κs within =
     let x = found (record { run = g.at.run; windows = g.at.windows + 1 }) 0 0 0 ws c.index.result.now b c.requires.1.1.1.1.1.1.1.0 c.index.ensures in
     let e : c.parts-parts.result ≡ g.at.run.partition.parts = c.parts-parts.ensures ∙ ap (λ (r : RunSpec). r.partition.parts) (c.deref.ensures ∙ c.run.ensures ∙ x.run) in
     (within.0, (within.1, (c.requires.1.1.1.1.1.1.1.0, (omega arith, subst (λ n. AllBetween (record { run = g.at.run; windows = g.at.windows + 1 }) n 0 c.exchange.new.workers.items) e c.in_ok-exchange.ensures))))
+
+pub returns-clause-cut : goal.returns-clause-cut
+returns-clause-cut g c =
+    let kind = g.E.Element.kind in
+    let saving = g.E.Element.saving in
+    let m = g.E.Simulated.meaning in
+    let r = g.at.run in
+    let k = g.at.windows in
+    let e : k + 1 - 1 ≡ k = omega arith in
+    all_ok c.gather.result (λ x. AreWindowLines kind m r (k + 1 - 1) x.lines) (λ x. AreFirst (IsSaveTime kind m r (k + 1)) 1025 x.saves) (λ x. ArePieces kind saving m r (k + 1 - 1) x.pieces) (λ x. IsWindowCut kind saving m r k x)
+    (λ x ls ts ps. record {
+      lines = subst (λ n. AreWindowLines kind m r n x.lines) e ls;
+      saves = subst (λ n. AreFirst (IsSaveTime kind m r n) 1025 x.saves) (add-one k) ts;
+      pieces = subst (λ n. ArePieces kind saving m r n x.pieces) e ps;
+    })
+    c.gather.ensures.lines c.gather.ensures.saves c.gather.ensures.pieces

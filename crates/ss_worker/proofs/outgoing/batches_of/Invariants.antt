@@ -1,4 +1,5 @@
 use Rattle.std.proofs.Common.{◌≡◌, ◌≤◌, ℕ, [], map, option_map, slice_index_or, length}
+use Rattle.ss_piece.specs.Pieces.{slip}
 use Rattle.ss_worker.specs.Sound.{named}
 use Rattle.ss_worker.specs.Outgoing.{AreNamed}
 use Rattle.ss_worker.proofs.outgoing.batches_of.Given as goal
@@ -11,4 +12,5 @@ invariant-loop-taker g l = record {
   idle : l.outgoing.idle ≡ l.fn.outgoing.idle;
   rest : (q : ℕ) → l.taker ≤ q → slice_index_or (map (λ batch. batch.items) l.outgoing.batches.items) q [] ≡ slice_index_or (map (λ batch. batch.items) l.fn.outgoing.batches.items) q [];
   lines : l.taker ≡ 0 → l.outgoing.lines.items ≡ l.fn.outgoing.lines.items;
+  piece : l.taker ≡ 0 → option_map slip l.outgoing.piece ≡ option_map slip l.fn.outgoing.piece;
 }

@@ -8,6 +8,8 @@ use Rattle.ss_part.specs.Cut.{cut}
 use Rattle.ss_run.specs.declared.RunSpec.{RunSpec}
 use Rattle.ss_worker.specs.Sound.{named}
 use Rattle.ss_worker.proofs.Begins.{sound, no_batches, none_sent, below, few}
+use Rattle.ss_piece.specs.Pieces.{slip}
+use Rattle.ss_worker.proofs.Pieces.{saves_first}
 use Rattle.ss_worker.proofs.worker.Worker.new.Goals as goal
 
 pub new-requires-clause-few : goal.new-requires-clause-few
@@ -46,6 +48,7 @@ invariant_of-result g c =
           hs ts c.requires.wires look c.in_ok-body.ensures c.requires.elements c.requires.events c.requires.last refl c.requires.done (c.then_some-since.ensures ∙ some_if c.args.done c.deref-5.result.now.cuts.origin ∙ ap (λ (x : RunSpec). cond c.args.done (Some x.cuts.origin) None) c.deref-5.ensures) c.requires.least,
       no_batches kind g.E.Element.safe g.met.E.Element.laws g.E.Simulated.meaning g.met.E.Simulated.opens r c.requires.fits c.args.part c.requires.part c.in_ok-handed.handed.items (map (λ b. option_map (λ b. named (arc_value b.run) b.giver b.taker b.number) b) c.new-2.result.items) hs,
       none_sent kind g.E.Element.safe g.met.E.Element.laws g.E.Simulated.meaning g.met.E.Simulated.opens r c.requires.fits c.args.part c.requires.part c.in_ok-handed.handed.items c.in_ok-sent.sent.items hs zs,
+      saves_first kind g.E.Element.safe g.met.E.Element.laws g.E.Simulated.meaning g.met.E.Simulated.opens r c.requires.fits g.E.Element.saving c.args.part c.in_ok-taken.taken.items c.deref-6.result.now.cuts.origin (map slip c.new-4.result.items) (ap (λ (x : RunSpec). x.cuts.origin) c.deref-6.ensures),
     )
 
 pub returns : goal.returns

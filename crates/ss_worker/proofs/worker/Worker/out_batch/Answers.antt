@@ -45,4 +45,5 @@ invariant_of-self g c =
       sound_out kind g.E.Element.safe g.met.E.Element.laws m g.met.E.Simulated.opens r inv.0.fits w.part q lt w.handed.items inv.0.handed missing w.windows w.taken.items w.gathered (arc_value w.wires) w.look w.body w.known (map (λ ls. ls.items) w.lines.items) inv.0,
       batches_out kind g.E.Element.safe g.met.E.Element.laws m g.met.E.Simulated.opens r inv.0.fits w.part q lt w.handed.items inv.0.handed missing w.windows (map (λ b. option_map (λ b. named (arc_value b.run) b.giver b.taker b.number) b) w.batches.items) _ (option_map (λ b. named (arc_value b.run) b.giver b.taker b.number) c.take.new.self) (map_set_any (λ b. option_map (λ b. named (arc_value b.run) b.giver b.taker b.number) b) w.batches.items q c.take.new.self) inv.1,
       sent_out_at kind g.E.Element.safe g.met.E.Element.laws m g.met.E.Simulated.opens r inv.0.fits w.part q lt w.handed.items inv.0.handed missing w.windows (inv.1.ran q lt missing) other b.next b.done b.events.items b.lines.items told w.sent.items _ (c.index_mut-2.result.now + c.len.result) refl more (omega (arith, c.len.ensures, b.events.ok.0, c.len.type_inv)) inv.2,
+      inv.3,
     )

@@ -1,0 +1,37 @@
+use Rattle.std.proofs.Common.{ap, sym, ◌∙◌, subst, map}
+use Rattle.std.specs.Arc.{arc_value}
+use Rattle.ss_window.specs.declared.Cuts.{Cuts}
+use Rattle.ss_window.specs.Least.{IsFirst}
+use Rattle.ss_run.specs.declared.RunSpec.{RunSpec}
+use Rattle.ss_worker.specs.Place.{Place, all_set}
+use Rattle.ss_worker.specs.Knowing.{KnownFits}
+use Rattle.ss_worker.specs.Saves.{IsKnownSave, IsSaveTime}
+use Rattle.ss_worker.proofs.Knows.{stands, known_fits}
+use Rattle.ss_worker.proofs.Pieces.{ended_early, first_is}
+use Rattle.ss_worker.proofs.worker.Worker.first_save.Goals as goal
+
+pub save_from-requires-clause-fits : goal.save_from-requires-clause-fits
+save_from-requires-clause-fits g c =
+    let w = c.self.inside in
+    let r = arc_value w.run in
+    let inv = c.self.invariant (ap (λ (pl : Place). pl.failed) c.self.view_is ∙ c.requires.alive) in
+    let s = stands g.E.Element.kind g.E.Element.safe g.met.E.Element.laws g.E.Simulated.meaning g.met.E.Simulated.opens r inv.0.fits w.part inv.0.part w.windows w.taken.items w.gathered (map (λ ls. ls.items) w.lines.items) w.body.part w.known inv.0.knows (ap (λ (pl : Place). all_set pl.taken) c.self.view_is ∙ c.requires.taken) in
+    let k = known_fits g.E.Element.kind g.E.Element.safe g.met.E.Element.laws g.E.Simulated.meaning g.met.E.Simulated.opens r inv.0.fits w.windows w.known s.knows inv.0.went in
+    subst (λ (c : Cuts). KnownFits w.known c) (ap (λ (x : RunSpec). x.cuts) (sym c.deref.ensures)) k
+
+pub save_from-requires-clause-from : goal.save_from-requires-clause-from
+save_from-requires-clause-from g c =
+    let w = c.self.inside in
+    let r = arc_value w.run in
+    let inv = c.self.invariant (ap (λ (pl : Place). pl.failed) c.self.view_is ∙ c.requires.alive) in
+    ended_early g.E.Element.kind g.E.Element.safe g.met.E.Element.laws g.E.Simulated.meaning g.met.E.Simulated.opens r inv.0.fits w.windows w.ended inv.3.ended_at
+
+pub returns : goal.returns
+returns g c =
+    let w = c.self.inside in
+    let r = arc_value w.run in
+    let inv = c.self.invariant (ap (λ (pl : Place). pl.failed) c.self.view_is ∙ c.requires.alive) in
+    let s = stands g.E.Element.kind g.E.Element.safe g.met.E.Element.laws g.E.Simulated.meaning g.met.E.Simulated.opens r inv.0.fits w.part inv.0.part w.windows w.taken.items w.gathered (map (λ ls. ls.items) w.lines.items) w.body.part w.known inv.0.knows (ap (λ (pl : Place). all_set pl.taken) c.self.view_is ∙ c.requires.taken) in
+    let is = subst (λ (x : RunSpec). IsFirst (IsKnownSave x.cuts w.known w.ended) c.save_from.result) c.deref.ensures c.save_from.ensures in
+    subst (λ (pl : Place). IsFirst (IsSaveTime g.E.Element.kind g.E.Simulated.meaning pl.run pl.windows) c.save_from.result) c.self.view_is
+    (first_is g.E.Element.kind g.E.Element.safe g.met.E.Element.laws g.E.Simulated.meaning g.met.E.Simulated.opens r inv.0.fits w.windows w.known w.ended s.knows inv.3.ended_at c.save_from.result is)
