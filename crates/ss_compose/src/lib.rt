@@ -5,5 +5,7 @@
 mod composing;
 mod holders;
 mod merging;
+#[cfg(test)]
+mod tests;
 
 pub use composing::{compose, length};
