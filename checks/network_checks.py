@@ -124,10 +124,59 @@ FAULTS = [
 
 SAME = ["8 B", "64b"]
 
+# What is wrong with one parameter of a mesh's first generator of traffic.
+GENERATOR_PARAMS = [
+    ("id", [None, "x", "4294967296"]),
+    ("num_peers", [None, "1", "4097", "x"]),
+    ("pattern", [None, "", "Uniform", "merlin.uniform", "random"]),
+    ("packets", ["1000001", "x", "-1", "01"]),
+    ("packet_size", ["8", "0B", "x", ""]),
+    ("vn", ["2", "x", "01", "-1"]),
+    ("seed", ["x", "", "01", "18446744073709551616"]),
+    ("num_vns", ["0", "9", "x"]),
+    ("flit_size", ["8", "0B"]),
+    ("link_bw", [None, "8GB"]),
+    ("input_buf_size", [None, "7B", "8389000B"]),
+    ("output_buf_size", [None, "7B", "8389000B"]),
+]
 
-def mesh(index, params):
+# Parameters of a generator that are judged together, or don't fit the mesh of 3x2, with the one that is named.
+GENERATOR_FAULTS = [
+    ("the pattern before the number of packets", {"pattern": "x", "packets": "x"}, "pattern"),
+    ("the number of peers before the pattern", {"num_peers": "1", "pattern": "x"}, "num_peers"),
+    ("a network below a number that is none", {"vn": 2, "num_vns": "x"}, "vn"),
+    ("a number of networks that is none, behind a network below 2", {"vn": 1, "num_vns": "x"}, "num_vns"),
+    ("a network that isn't below the number of networks", {"vn": 1, "num_vns": 1}, "vn"),
+    ("a network that would be there in another's network", {"vn": 2, "num_vns": 3}, "num_vns"),
+    ("the network before the seed", {"vn": "x", "seed": "x"}, "vn"),
+    ("the seed before the hot endpoint", {"pattern": "hotspot", "seed": "x", "hot": "x"}, "seed"),
+    ("a hot endpoint that isn't a number", {"pattern": "hotspot", "hot": "x"}, "hot"),
+    ("a hot endpoint that isn't there", {"pattern": "hotspot", "hot": 6}, "hot"),
+    ("a hot endpoint below its own number of peers", {"pattern": "hotspot", "hot": 6, "num_peers": 7}, "num_peers"),
+    ("the hot endpoint before the networks", {"pattern": "hotspot", "hot": 6, "num_vns": "x"}, "hot"),
+    ("a line that is too slow", {"link_bw": "1b/s"}, "input_buf_size"),
+    ("an endpoint's number that is too high", {"id": 6}, "id"),
+    ("an endpoint's number that is another's", {"id": 1}, None),
+    ("another number of peers", {"num_peers": 5}, "num_peers"),
+    ("other flits", {"flit_size": "4B"}, "flit_size"),
+    ("a packet larger than the least queue", {"packet_size": "1025B"}, "packet_size"),
+    ("rows and columns of six endpoints", {"pattern": "transpose"}, "pattern"),
+    ("the packet's size before the pattern's shape", {"pattern": "transpose", "packet_size": "1025B"}, "packet_size"),
+]
+
+# Parameters of generators that may be.
+GENERATOR_MAY = [
+    {"pattern": "complement", "packets": 0},
+    {"pattern": "tornado", "packets": 1000000, "packet_size": "1KiB"},
+    {"pattern": "hotspot", "hot": 5},
+    {"pattern": "hotspot"},
+    {"pattern": "uniform", "hot": "x", "seed": "18446744073709551615", "vn": 1},
+]
+
+
+def mesh(index, params, kind="merlin.test_nic"):
     """A mesh of 3x2 with other parameters of component `index`; `None` leaves one out."""
-    graph = networks.graph_of(networks.mesh([3, 2]))
+    graph = networks.graph_of(networks.mesh([3, 2]), kind=kind)
     own = graph["components"][index]["params"]
     for name, value in params.items():
         if value is None:
@@ -149,6 +198,40 @@ def param_rows():
     for value in SAME:
         graph = mesh(1, {"flit_size": value})
         yield "a flit size of equal value, %s" % value, graph, accepted(graph)
+
+
+def generator_rows():
+    """A mesh whose endpoints generate traffic."""
+    def changed(params):
+        return mesh(ENDPOINT, params, "merlin.trafficgen")
+
+    def at(index, name):
+        return refused("Param components[%d].params.%s" % (index, name))
+
+    for name, values in GENERATOR_PARAMS:
+        for value in values:
+            yield "a generator's %s %r" % (name, value), changed({name: value}), at(ENDPOINT, name)
+    for what, params, name in GENERATOR_FAULTS:
+        yield "a generator: " + what, changed(params), at(ENDPOINT, name) if name else at(ENDPOINT + 1, "id")
+    for params in GENERATOR_MAY:
+        graph = changed(params)
+        yield "a generator of %r" % params, graph, accepted(graph)
+    square = networks.graph_of(networks.torus([2, 2]), {"pattern": "transpose"}, kind="merlin.trafficgen")
+    yield "rows and columns of four endpoints", square, accepted(square)
+    square["components"][4]["statistics"] = [{"name": name} for name in ("sent", "received", "latency", "out_of_order")]
+    yield "all statistics of a generator", square, accepted(square)
+    asked = copy.deepcopy(square)
+    asked["components"][4]["statistics"] = [{"name": "roundtrip"}]
+    yield "a statistic that a generator hasn't", asked, refused("Param components[4].statistics[0]")
+    mixed = copy.deepcopy(square)
+    test = networks.graph_of(networks.torus([2, 2]))["components"][4]
+    mixed["components"][4] = test
+    yield "a test endpoint among generators", mixed, accepted(mixed)
+    named = copy.deepcopy(square)
+    named["links"][-1]["left"]["port"] = "port"
+    yield "a generator's port of another name", named, refused("UnknownPort links[%d].left.port" % (len(named["links"]) - 1))
+    alone = without(square, len(square["links"]) - 1)
+    yield "a generator without a link", alone, refused("PortUnlinked components[7].rtr")
 
 
 def added(graph, components=(), links=()):
@@ -206,7 +289,7 @@ def main():
     with tempfile.TemporaryDirectory() as name:
         folder = pathlib.Path(name)
         rows = [("%s %s" % (shape.kind, shape.shape), graph, wanted) for shape in SHAPES for graph, wanted in broken(shape)]
-        for what, graph, wanted in rows + list(param_rows()) + list(other_rows()):
+        for what, graph, wanted in rows + list(param_rows()) + list(generator_rows()) + list(other_rows()):
             tried += 1
             found = check(graph, folder)
             if found != wanted:

@@ -91,8 +91,12 @@ def link(number, left, right):
     return {"name": "l%d" % number, "left": end(left), "right": end(right)}
 
 
-def graph_of(shape, endpoint=None, router=None):
-    """The graph of a shape: its routers, then its endpoints; the links of routers, then those of endpoints."""
+# What an endpoint of each kind is asked to do.
+WORK = {"merlin.test_nic": {"num_messages": 1}, "merlin.trafficgen": {"pattern": "uniform", "packets": 1}}
+
+
+def graph_of(shape, endpoint=None, router=None, kind="merlin.test_nic"):
+    """The graph of a shape: its routers, then its endpoints of a kind; the links of routers, then those of endpoints."""
     shared = {"num_vns": 2, "flit_size": "8B", "link_bw": "8GB/s", "input_buf_size": "1KiB", "output_buf_size": "1KiB"}
     hosts = shape.hosts()
     components = []
@@ -100,8 +104,8 @@ def graph_of(shape, endpoint=None, router=None):
         params = dict({"id": i, "xbar_bw": "8GB/s"}, **shape.params(), **shared)
         components.append({"name": "rtr%d" % i, "type": "merlin.hr_router", "params": dict(params, **(router or {}))})
     for h in range(hosts):
-        params = dict({"id": h, "num_peers": hosts, "num_messages": 1}, **shared)
-        components.append({"name": "nic%d" % h, "type": "merlin.test_nic", "params": dict(params, **(endpoint or {}))})
+        params = dict({"id": h, "num_peers": hosts}, **WORK[kind], **shared)
+        components.append({"name": "nic%d" % h, "type": kind, "params": dict(params, **(endpoint or {}))})
     links, homes = [], []
     for i, ports in enumerate(shape.peers):
         for p, peer in enumerate(ports):

@@ -12,7 +12,7 @@ import program
 MASK = (1 << 64) - 1
 HOW = ["linear", "roundrobin", "latency", "self", "single"]
 PORTS = ["in%d" % i for i in range(4)]
-NETWORKS = ["single_router", "mesh", "torus", "fattree"]
+NETWORKS = ["single_router", "traffic", "mesh", "torus", "fattree"]
 
 
 class Words:

@@ -85,7 +85,7 @@ module _ {S U L : Type 0} (to : S → U) (handled : S → ℕ → Cause L → Re
   room x (cause.Own i y) h = h
   room x (cause.Tick i) h = h
 
-  told : (x : S) (now : ℕ) (why : Cause L) → MayTell all may (to x) now why → MayTell kind allowed x now why
+  pub told : (x : S) (now : ℕ) (why : Cause L) → MayTell all may (to x) now why → MayTell kind allowed x now why
   told x now why h = record {
     holds = h.holds;
     fit = h.fit;

@@ -25,7 +25,7 @@ use Rattle.ss_network.specs.declared.ask.Work.{Work}
 use Rattle.ss_network.specs.declared.ask.Work.TheVariants as work
 use Rattle.ss_network.specs.declared.member.Member.{Member}
 use Rattle.ss_network.specs.declared.member.Member.TheVariants as member
-use Rattle.ss_network.specs.Asks.{router_of, endpoint_of}
+use Rattle.ss_network.specs.Asks.{router_of, endpoint_of, generator_of}
 use Rattle.ss_network.specs.Network.{first_router, least}
 use Rattle.ss_network.specs.Joined.{IsNetwork}
 use Rattle.ss_network.proofs.Joined.{has-first}
@@ -139,6 +139,7 @@ module _ (g : Graph) (components : first_fault (components_checks g.components) 
     }
     starts_by (Some kind.Router) k s = router_starts _ (router_begins (wiring_of g) (members_of g) c (router_of p.params) (empty_stats p.stats) net run (here (Some kind.Router) k) (stats_fit p.stats))
     starts_by (Some kind.TestNic) k s = nic_starts (endpoint_of p.params).work _ (endpoint_begins (wiring_of g) (members_of g) c p.name (endpoint_of p.params) (empty_stats p.stats) net run (here (Some kind.TestNic) k) (stats_fit p.stats))
+    starts_by (Some kind.TrafficGen) k s = nic_starts (generator_of p.params).work _ (endpoint_begins (wiring_of g) (members_of g) c p.name (generator_of p.params) (empty_stats p.stats) net run (here (Some kind.TrafficGen) k) (stats_fit p.stats))
 
     pub starts : CanStart (begun (wiring_of g) (members_of g) c p)
     starts = starts_by (kind_named p.kind) refl has_kind
@@ -150,6 +151,7 @@ module _ (g : Graph) (components : first_fault (components_checks g.components) 
     read_by (Some kind.Ticker) k = record { channels = λ q. refl; credits = λ q ch l. none_below ch l; queued = λ q ch l. none_below ch l; capacity = λ q ch l. none_below ch l; limit = λ q ch l. none_below ch l }
     read_by (Some kind.Router) k = router_meters (wiring_of g) (members_of g) c _ _ (router_read (wiring_of g) (members_of g) c (router_of p.params) (empty_stats p.stats) net run (here (Some kind.Router) k))
     read_by (Some kind.TestNic) k = nic_meters (wiring_of g) (members_of g) c _ (endpoint_of p.params).work _ (endpoint_read (wiring_of g) (members_of g) c p.name (endpoint_of p.params) (empty_stats p.stats) net run (here (Some kind.TestNic) k))
+    read_by (Some kind.TrafficGen) k = nic_meters (wiring_of g) (members_of g) c _ (generator_of p.params).work _ (endpoint_read (wiring_of g) (members_of g) c p.name (generator_of p.params) (empty_stats p.stats) net run (here (Some kind.TrafficGen) k))
 
     pub read : AreRead (meters_of any_kind) (wiring_of g) (members_of g) c (begun (wiring_of g) (members_of g) c p)
     read = record { part = member_of p; there = here (kind_named p.kind) refl; read = read_by (kind_named p.kind) refl }
@@ -165,6 +167,9 @@ module _ (g : Graph) (components : first_fault (components_checks g.components) 
     voice_by (Some kind.TestNic) k s =
         let f = at_router (wiring_of g) (members_of g) c (endpoint_of p.params) net (here (Some kind.TestNic) k) in
         Net f.0 _ f.1 (here (Some kind.TestNic) k) refl (nic_voice (wiring_of g) (members_of g) f.0 c _ (endpoint_of p.params).work _ (endpoint_speaks (wiring_of g) (members_of g) c p.name f.0 (endpoint_of p.params) (empty_stats p.stats) net run f.1 (here (Some kind.TestNic) k)))
+    voice_by (Some kind.TrafficGen) k s =
+        let f = at_router (wiring_of g) (members_of g) c (generator_of p.params) net (here (Some kind.TrafficGen) k) in
+        Net f.0 _ f.1 (here (Some kind.TrafficGen) k) refl (nic_voice (wiring_of g) (members_of g) f.0 c _ (generator_of p.params).work _ (endpoint_speaks (wiring_of g) (members_of g) c p.name f.0 (generator_of p.params) (empty_stats p.stats) net run f.1 (here (Some kind.TrafficGen) k)))
 
     pub voice : Voice (wiring_of g) (members_of g) c (begun (wiring_of g) (members_of g) c p)
     voice = voice_by (kind_named p.kind) refl has_kind
@@ -203,6 +208,7 @@ module _ (g : Graph) (components : first_fault (components_checks g.components) 
     }
     named_by (Some kind.Router) k s = net_named _ (ap is_clocked k) (voice_by (Some kind.Router) k s) (ap (λ o. is_network (member_by p o)) k)
     named_by (Some kind.TestNic) k s = net_named _ (ap is_clocked k) (voice_by (Some kind.TestNic) k s) (ap (λ o. is_network (member_by p o)) k)
+    named_by (Some kind.TrafficGen) k s = net_named _ (ap is_clocked k) (voice_by (Some kind.TrafficGen) k s) (ap (λ o. is_network (member_by p o)) k)
 
     pub named : HasNamed any_kind any_allowed (wiring_of g) c (begun (wiring_of g) (members_of g) c p)
     named = named_by (kind_named p.kind) refl has_kind

@@ -7,3 +7,8 @@ pub mod Naming
 pub mod Members
 pub mod Begun
 pub mod Opening
+pub mod Lifting
+pub mod Ordering
+pub mod Networks
+pub mod Ordered
+pub mod Judged

@@ -47,6 +47,7 @@ inner_few i p = by_kind (kind_named p.kind)
     by_kind (Some kind.Ticker) = grind arith
     by_kind (Some kind.Router) = grind arith
     by_kind (Some kind.TestNic) = grind arith
+    by_kind (Some kind.TrafficGen) = grind arith
 
 pub wires_are : (w : Wiring) (ls : List LinkLine) (ys : List InnerLine) → w.links ≡ ls → w.inner ≡ ys → w ≡ record { links = ls; inner = ys }
 wires_are w ls ys e f = rw (← e, ← f) refl

@@ -12,7 +12,7 @@ use Rattle.ss_network.specs.declared.fault.MakeFault.TheVariants as fault
 use Rattle.ss_network.specs.declared.ask.RouterAsk.{RouterAsk}
 use Rattle.ss_network.specs.Asks.{router_of}
 use Rattle.ss_network.specs.Network.{ports_of as router_ports}
-use Rattle.ss_network.proofs.Ranges.{router_fits, endpoint_fits}
+use Rattle.ss_network.proofs.Ranges.{router_fits, endpoint_fits, generator_fits}
 use Rattle.ss_fresh.specs.Tied.{CanRun, AllCanRun}
 use Rattle.ss_library.specs.declared.table.KindName.{KindName}
 use Rattle.ss_library.specs.declared.table.KindName.TheVariants as kind
@@ -33,6 +33,7 @@ can_run_by i p (Some kind.Router) c d =
     let h = no_fault (first_fault (stats_by i p (Some kind.Router))) (first_fault (limit_check (router_of p.params) ∷ [])) (sym (first_fault_append (stats_by i p (Some kind.Router)) (limit_check (router_of p.params) ∷ [])) ∙ d) in
     (router_fits i p.params c, le-of (router_ports (router_of p.params)) 256 (holds_by (nat_le (router_ports (router_of p.params)) 256) _ _ h.1))
 can_run_by i p (Some kind.TestNic) c d = endpoint_fits i p.params c
+can_run_by i p (Some kind.TrafficGen) c d = generator_fits i p.params c
 
 -- a component that passes its checks has a kind, with its parameters and all else
 pub record Passed (i : ℕ) (p : Part) : Type 0 where

@@ -70,6 +70,7 @@ own_by m n c p (Some kind.Echo) more e k = some_here (eqb n c) (eqb 0 0) m (own_
 own_by m n c p (Some kind.Ticker) more e k = absurd (let s = some_same k in cc)
 own_by m n c p (Some kind.Router) more e k = absurd (let s = some_same k in cc)
 own_by m n c p (Some kind.TestNic) more e k = absurd (let s = some_same k in cc)
+own_by m n c p (Some kind.TrafficGen) more e k = absurd (let s = some_same k in cc)
 
 -- which kinds have a clock
 abbrev pub is_clocked : Option KindName → Bool
@@ -79,6 +80,7 @@ is_clocked (Some kind.Echo) = false
 is_clocked (Some kind.Ticker) = true
 is_clocked (Some kind.Router) = true
 is_clocked (Some kind.TestNic) = true
+is_clocked (Some kind.TrafficGen) = true
 
 clock_by : (m n c : ℕ) (p : Part) (o : Option KindName) (more : List InnerLine) → c ≡ n → is_clocked o ≡ true → is_some (clock_from m (inner_by n p o ++ more) c 0) ≡ true
 clock_by m n c p None more e k = absurd cc
@@ -87,6 +89,7 @@ clock_by m n c p (Some kind.Echo) more e k = absurd cc
 clock_by m n c p (Some kind.Ticker) more e k = some_here (eqb n c) (eqb 0 0) (m, _) (clock_from (m + 1) more c 0) (eq-eqb n c (sym e)) refl
 clock_by m n c p (Some kind.Router) more e k = some_here (eqb n c) (eqb 0 0) (m, _) (clock_from (m + 1) more c 0) (eq-eqb n c (sym e)) refl
 clock_by m n c p (Some kind.TestNic) more e k = some_here (eqb n c) (eqb 0 0) (m, _) (clock_from (m + 1) more c 0) (eq-eqb n c (sym e)) refl
+clock_by m n c p (Some kind.TrafficGen) more e k = some_here (eqb n c) (eqb 0 0) (m, _) (clock_from (m + 1) more c 0) (eq-eqb n c (sym e)) refl
 
 pub own_there : (m n c d : ℕ) (ps : List Part) (p : Part) → c ≡ n + d → slice_get ps d ≡ Some p → kind_named p.kind ≡ Some kind.Echo → is_some (own_from m (each_numbered inner_of n ps) c 0) ≡ true
 unfolding each_numbered

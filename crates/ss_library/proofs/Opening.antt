@@ -26,10 +26,10 @@ use Rattle.ss_graph.proofs.Judging.{first_fault_append}
 use Rattle.ss_network.specs.declared.ask.RouterAsk.{RouterAsk}
 use Rattle.ss_network.specs.declared.member.Member.{Member}
 use Rattle.ss_network.specs.declared.member.Member.TheVariants as member
-use Rattle.ss_network.specs.Asks.{router_of, endpoint_of}
+use Rattle.ss_network.specs.Asks.{router_of, endpoint_of, generator_of}
 use Rattle.ss_network.specs.Network.{first_router, least}
 use Rattle.ss_network.specs.Joined.{IsNetwork, HasPort, Joins}
-use Rattle.ss_network.proofs.Ranges.{router_fits, endpoint_fits}
+use Rattle.ss_network.proofs.Ranges.{router_fits, endpoint_fits, generator_fits}
 use Rattle.ss_fresh.specs.Tied.{AreJoined, AllTied}
 use Rattle.ss_fresh.specs.Begins.{AreRead, bounds, LoadGoes}
 use Rattle.ss_fresh.proofs.Balance.{end_of_line, paired, credited}
@@ -60,6 +60,7 @@ inner_before i p (Some kind.Echo) ys c h = (tt, h)
 inner_before i p (Some kind.Ticker) ys c h = (clock_fits p.params (holds_by (is_some (param_value p.params clock_row)) _ _ c), h)
 inner_before i p (Some kind.Router) ys c h = let t = (router_fits i p.params c).period in ((t.some, t.few), h)
 inner_before i p (Some kind.TestNic) ys c h = let t = (endpoint_fits i p.params c).time in ((t.some, t.few), h)
+inner_before i p (Some kind.TrafficGen) ys c h = let t = (generator_fits i p.params c).time in ((t.some, t.few), h)
 
 inner_fit : (n : ℕ) (ps : List Part) → first_fault (each_numbered component_checks n ps) ≡ None → InnersFit (each_numbered inner_of n ps)
 unfolding each_numbered
@@ -137,6 +138,7 @@ clocks_front i p (Some kind.Echo) ls h = clocks_own i i ls (clocks_up i ls h)
 clocks_front i p (Some kind.Ticker) ls h = clocks_clock i (value p clock_row) ls h
 clocks_front i p (Some kind.Router) ls h = clocks_clock i (router_of p.params).period ls h
 clocks_front i p (Some kind.TestNic) ls h = clocks_clock i (endpoint_of p.params).flit_time ls h
+clocks_front i p (Some kind.TrafficGen) ls h = clocks_clock i (generator_of p.params).flit_time ls h
 
 clocks_all : (n : ℕ) (ps : List Part) → Clocks n (each_numbered inner_of n ps)
 unfolding each_numbered
@@ -162,6 +164,7 @@ inner_end i p (Some kind.Echo) ls count h rest = owned
 inner_end i p (Some kind.Ticker) ls count h rest = clock_end i (value p clock_row) ls count h rest
 inner_end i p (Some kind.Router) ls count h rest = clock_end i (router_of p.params).period ls count h rest
 inner_end i p (Some kind.TestNic) ls count h rest = clock_end i (endpoint_of p.params).flit_time ls count h rest
+inner_end i p (Some kind.TrafficGen) ls count h rest = clock_end i (generator_of p.params).flit_time ls count h rest
 
 inners_end : (n count : ℕ) (ps : List Part) → n + length ps ≡ count → InnersEnd count (each_numbered inner_of n ps)
 unfolding each_numbered
@@ -222,11 +225,11 @@ module _ (g : Graph) (h : IsFit g) (c : first_fault (components_checks g.compone
   read_at : (i : ℕ) (x : Any) → slice_get (model_of g).elements i ≡ Some x → AreRead (meters_of any_kind) (wiring_of g) (members_of g) i x
   read_at i x at = let f = part_at i x at in subst (AreRead (meters_of any_kind) (wiring_of g) (members_of g) i) f.is (read g c links ports net i f.part f.there)
 
-  tied : AllTied (wiring_of g) (members_of g)
+  pub tied : AllTied (wiring_of g) (members_of g)
   unfolding links_checks
   tied = all_tied g.components g.links (wiring_of g) refl links h.ends
 
-  model_opens : Opens any_kind any_allowed (wiring_of g) (model_of g).elements
+  pub model_opens : Opens any_kind any_allowed (wiring_of g) (model_of g).elements
   unfolding components_checks
   model_opens = record {
     stands = record {

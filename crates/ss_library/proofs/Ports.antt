@@ -18,7 +18,7 @@ use Rattle.ss_library.specs.declared.table.KindName.TheVariants as kind
 use Rattle.ss_library.specs.declared.table.PortRow.{PortRow}
 use Rattle.ss_kinds.specs.Names.{port_text}
 use Rattle.ss_network.specs.Names.{rtr_text}
-use Rattle.ss_library.specs.Tables.{port_from, kind_named}
+use Rattle.ss_library.specs.Tables.{port_from, kind_named, is_endpoint}
 use Rattle.ss_library.specs.Make.{each_numbered, ports_of, port_named, port_there, port_in, link_checks, lines_of}
 
 -- ---- the names in a table differ
@@ -37,6 +37,7 @@ differ (Some kind.Pinger) = (tt, tt)
 differ (Some kind.Echo) = (tt, tt)
 differ (Some kind.Router) = tt
 differ (Some kind.TestNic) = tt
+differ (Some kind.TrafficGen) = tt
 differ (Some kind.Ticker) = ((refl, (refl, (refl, (refl, tt)))), ((refl, (refl, (refl, tt))), ((refl, (refl, tt)), ((refl, tt), (tt, tt)))))
 
 pub same_bytes : (a b : List ℕ) → bytes_eq a b ≡ true → a ≡ b
@@ -91,6 +92,7 @@ row_named p (Some kind.Echo) k r g s n h = port_is (ports_of (Some kind.Echo)) 0
 row_named p (Some kind.Ticker) k r g s n h = port_is (ports_of (Some kind.Ticker)) 0 k n s r (differ (Some kind.Ticker)) h g
 row_named p (Some kind.Router) k r g s n h = absurd cc
 row_named p (Some kind.TestNic) k r g s n h = absurd cc
+row_named p (Some kind.TrafficGen) k r g s n h = absurd cc
 
 pub rows_named : (p : Part) (k : ℕ) (r : PortRow) → slice_get (ports_of (kind_named p.kind)) k ≡ Some r → Named p (port_text r.name) k
 rows_named p k r g s n h = let v : 0 + k ≡ k = omega arith in ap (nat_eq n) (sym v) ∙ row_named p (kind_named p.kind) k r g s n h
@@ -99,8 +101,17 @@ rtr_by : (n : ℕ) (s : List ℕ) (b : Bool) → bytes_eq rtr_text s ≡ b → c
 rtr_by n s true e h = let z : 0 ≡ n = cc in ap (λ m. nat_eq m 0) (sym z) ∙ sym e
 rtr_by n s false e h = absurd cc
 
-pub rtr_named : (p : Part) → kind_named p.kind ≡ Some kind.TestNic → Named p rtr_text 0
-rtr_named p k s n h = rtr_by n s (bytes_eq rtr_text s) refl (ap (λ o. port_named p o s) (sym k) ∙ h)
+rtr_of : (p : Part) (o : Option KindName) → is_endpoint o ≡ true → (s : List ℕ) (n : ℕ) → port_named p o s ≡ Some n → nat_eq n 0 ≡ bytes_eq rtr_text s
+rtr_of p None k s n h = absurd cc
+rtr_of p (Some kind.Pinger) k s n h = absurd cc
+rtr_of p (Some kind.Echo) k s n h = absurd cc
+rtr_of p (Some kind.Ticker) k s n h = absurd cc
+rtr_of p (Some kind.Router) k s n h = absurd cc
+rtr_of p (Some kind.TestNic) k s n h = rtr_by n s (bytes_eq rtr_text s) refl h
+rtr_of p (Some kind.TrafficGen) k s n h = rtr_by n s (bytes_eq rtr_text s) refl h
+
+pub rtr_named : (p : Part) → is_endpoint (kind_named p.kind) ≡ true → Named p rtr_text 0
+rtr_named p k s n h = rtr_of p (kind_named p.kind) k s n h
 
 end_by : (ps : List Part) (p : Part) (t : List ℕ) (c d k : ℕ) (s : List ℕ) (b : Bool) → nat_eq d c ≡ b → slice_get ps c ≡ Some p → Named p t k → is_some (port_there (slice_get ps d) s) ≡ true → (b && nat_eq (the (port_there (slice_get ps d) s)) k) ≡ (nat_eq c d && bytes_eq t s)
 end_by ps p t c d k s true e h g f =

@@ -56,6 +56,7 @@ name-once p (Some kind.Echo) k s t g i = rows-once (ports_table kind.Echo) 0 k s
 name-once p (Some kind.Ticker) k s t g i = rows-once (ports_table kind.Ticker) 0 k s t g i
 name-once p (Some kind.Router) k s t g i = (numbered_is (router_ports (router_of p.params)) k s g).1 ∙ sym (numbered_is (router_ports (router_of p.params)) k t i).1
 name-once p (Some kind.TestNic) k s t g i = (rtr-is k s (bytes_eq rtr_text s) refl g).1 ∙ sym (rtr-is k t (bytes_eq rtr_text t) refl i).1
+name-once p (Some kind.TrafficGen) k s t g i = (rtr-is k s (bytes_eq rtr_text s) refl g).1 ∙ sym (rtr-is k t (bytes_eq rtr_text t) refl i).1
 
 -- a port of a member has a name
 named-has : (p : Part) (o : Option KindName) (k : ℕ) (s : List ℕ) → port_named p o s ≡ Some k → is_network (member_by p o) ≡ true → HasPort (member_by p o) k
@@ -65,6 +66,7 @@ named-has p (Some kind.Echo) k s g n = absurd (false≢true n)
 named-has p (Some kind.Ticker) k s g n = absurd (false≢true n)
 named-has p (Some kind.Router) k s g n = (numbered_is (router_ports (router_of p.params)) k s g).0
 named-has p (Some kind.TestNic) k s g n = sym (rtr-is k s (bytes_eq rtr_text s) refl g).0
+named-has p (Some kind.TrafficGen) k s g n = sym (rtr-is k s (bytes_eq rtr_text s) refl g).0
 
 some-the : (o : Option ℕ) → is_some o ≡ true → o ≡ Some (the o)
 some-the None h = absurd (false≢true h)

@@ -6,3 +6,6 @@ pub mod Make
 pub mod Laws
 pub mod Meaning
 pub mod Opens
+pub mod Ways
+pub mod Order
+pub mod Judging

@@ -37,7 +37,7 @@ use Rattle.ss_network.specs.declared.member.Member.{Member}
 use Rattle.ss_network.specs.declared.member.Member.TheVariants as member
 use Rattle.ss_network.specs.Faults.{rtr_place}
 use Rattle.ss_network.specs.Names.{rtr_text, port_of}
-use Rattle.ss_network.specs.Asks.{router_checks, router_of, endpoint_checks, endpoint_of}
+use Rattle.ss_network.specs.Asks.{router_checks, router_of, endpoint_checks, endpoint_of, generator_checks, generator_of}
 use Rattle.ss_network.specs.Network.{ports_of as router_ports, network_checks}
 use Rattle.ss_fresh.specs.Starting.{begun_router, begun_nic}
 use Rattle.ss_kinds.specs.Names.{stat_text, port_text}
@@ -61,6 +61,7 @@ rows_by i p (Some kind.Echo) = map (row_check i p.params) (params_table kind.Ech
 rows_by i p (Some kind.Ticker) = map (row_check i p.params) (params_table kind.Ticker)
 rows_by i p (Some kind.Router) = router_checks i p.params
 rows_by i p (Some kind.TestNic) = endpoint_checks i p.params
+rows_by i p (Some kind.TrafficGen) = generator_checks i p.params
 
 -- component i has a kind, and its parameters are as its kind's table has them
 unfoldable pub kind_checks : ℕ → Part → List (Check MakeFault)
@@ -88,6 +89,7 @@ member_by p (Some kind.Echo) = member.Other
 member_by p (Some kind.Ticker) = member.Other
 member_by p (Some kind.Router) = member.Router (router_of p.params)
 member_by p (Some kind.TestNic) = member.Endpoint (endpoint_of p.params)
+member_by p (Some kind.TrafficGen) = member.Endpoint (generator_of p.params)
 
 abbrev pub member_of : Part → Member
 member_of p = member_by p (kind_named p.kind)
@@ -104,6 +106,7 @@ rest_by i p (Some kind.Echo) = stats_by i p (Some kind.Echo)
 rest_by i p (Some kind.Ticker) = stats_by i p (Some kind.Ticker)
 rest_by i p (Some kind.Router) = stats_by i p (Some kind.Router) ++ limit_check (router_of p.params) ∷ []
 rest_by i p (Some kind.TestNic) = stats_by i p (Some kind.TestNic)
+rest_by i p (Some kind.TrafficGen) = stats_by i p (Some kind.TrafficGen)
 
 unfoldable pub stats_checks : ℕ → Part → List (Check MakeFault)
 stats_checks i p = rest_by i p (kind_named p.kind)
@@ -146,6 +149,7 @@ port_named p (Some kind.Echo) t = port_from 0 (ports_table kind.Echo) t
 port_named p (Some kind.Ticker) t = port_from 0 (ports_table kind.Ticker) t
 port_named p (Some kind.Router) t = port_of (member.Router (router_of p.params)) t
 port_named p (Some kind.TestNic) t = port_of (member.Endpoint (endpoint_of p.params)) t
+port_named p (Some kind.TrafficGen) t = port_of (member.Endpoint (generator_of p.params)) t
 
 abbrev pub port_there : Option Part → List ℕ → Option ℕ
 port_there None t = None
@@ -215,6 +219,7 @@ ports_by ends i (Some kind.Echo) = map (linked_check ends i) (ports_table kind.E
 ports_by ends i (Some kind.Ticker) = map (linked_check ends i) (ports_table kind.Ticker)
 ports_by ends i (Some kind.Router) = []
 ports_by ends i (Some kind.TestNic) = rtr_check ends i ∷ []
+ports_by ends i (Some kind.TrafficGen) = rtr_check ends i ∷ []
 
 unfoldable pub ports_checks : List (ℕ × List ℕ) → ℕ → Part → List (Check MakeFault)
 ports_checks ends i p = ports_by ends i (kind_named p.kind)
@@ -232,6 +237,7 @@ inner_by i p (Some kind.Echo) = inner.Own i 0 ∷ []
 inner_by i p (Some kind.Ticker) = inner.Clock i 0 (value p clock_row) ∷ []
 inner_by i p (Some kind.Router) = inner.Clock i 0 (router_of p.params).period ∷ []
 inner_by i p (Some kind.TestNic) = inner.Clock i 0 (endpoint_of p.params).flit_time ∷ []
+inner_by i p (Some kind.TrafficGen) = inner.Clock i 0 (generator_of p.params).flit_time ∷ []
 
 abbrev pub inner_of : ℕ → Part → List InnerLine
 inner_of i p = inner_by i p (kind_named p.kind)
@@ -268,6 +274,7 @@ begun_by w ms i p (Some kind.Echo) = any.Echo (echo_of p)
 begun_by w ms i p (Some kind.Ticker) = joined w i p
 begun_by w ms i p (Some kind.Router) = any.Router (begun_router w ms i (router_of p.params) (empty_stats p.stats))
 begun_by w ms i p (Some kind.TestNic) = any_nic (endpoint_of p.params).work (begun_nic w ms i p.name (endpoint_of p.params) (empty_stats p.stats))
+begun_by w ms i p (Some kind.TrafficGen) = any_nic (generator_of p.params).work (begun_nic w ms i p.name (generator_of p.params) (empty_stats p.stats))
 
 abbrev pub begun : Wiring → List Member → ℕ → Part → Any
 begun w ms i p = begun_by w ms i p (kind_named p.kind)

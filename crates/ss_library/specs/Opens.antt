@@ -6,6 +6,8 @@ use Rattle.ss_model.specs.declared.Event.{Event}
 use Rattle.ss_model.specs.declared.LinkLine.{LinkLine}
 use Rattle.ss_model.specs.Step.{opening}
 use Rattle.ss_safe.specs.Kept.Found.{some_same, none_some}
+use Rattle.ss_safe.specs.Safe.{Stands}
+use Rattle.ss_origin.proofs.Opens.{sound_opens}
 use Rattle.ss_graph.specs.declared.graph.Graph.{Graph}
 use Rattle.ss_graph.specs.declared.graph.Join.{Join}
 use Rattle.ss_graph.specs.declared.graph.Part.{Part}
@@ -13,9 +15,11 @@ use Rattle.ss_graph.specs.Fit.{lat_by, line_ends_by}
 use Rattle.ss_run.specs.declared.Origin.TheVariants as origin
 use Rattle.ss_run.specs.Meaning.{IsLineOf, IsOpeningOf, MeaningLaws}
 use Rattle.mr_flow.specs.declared.Load.{Load}
-use Rattle.ss_library.specs.Kinds.{any_safe}
+use Rattle.ss_library.specs.Kinds.{any_kind, any_allowed, any_safe}
+use Rattle.ss_library.specs.Laws.{any_laws, any_saves}
 use Rattle.ss_library.specs.Make.{each_numbered, lines_of, model_of, wiring_of}
-use Rattle.ss_library.specs.Meaning.{IsMade, any_meaning}
+use Rattle.ss_library.specs.Meaning.{IsMade, IsSaved, any_meaning}
+use Rattle.ss_library.specs.Saved.{any_saving}
 
 -- line n of links is a line of theirs
 record IsAmong (ps : List Part) (js : List Join) (n : ℕ) (l : LinkLine) : Type 0 where
@@ -67,6 +71,12 @@ made_opens g m = record {
   lines = line_is g;
 }
 
+saved_opens : (g : Graph) (bytes : List ℕ) → IsMade g → IsSaved g bytes → IsOpeningOf any_safe g (origin.Saved bytes) (any_meaning.opening g (origin.Saved bytes))
+saved_opens g bytes m saved =
+    let safe = m.safe in
+    let stands : Stands any_kind any_allowed (model_of g).wires (model_of g).elements = record { wires = safe.wires; agrees = safe.agrees; named = safe.named; holds = safe.holds; paired = safe.paired } in
+    sound_opens any_kind any_allowed any_saving any_laws any_saves g (model_of g).wires (model_of g).elements bytes (record { fit = m.fit; whole = m.whole; lines = line_is g }) stands saved
+
 pub any_opens : MeaningLaws any_safe any_meaning
 any_opens g origin.Start m = made_opens g m
-any_opens g (origin.Saved bytes) m = absurd m
+any_opens g (origin.Saved bytes) m = saved_opens g bytes m.0 m.1

@@ -17,7 +17,17 @@ use Rattle.ss_library.specs.declared.table.PortRow.{PortRow}
 use Rattle.ss_kinds.specs.Names.{stat_text, port_text, ticker_ports}
 
 abbrev pub kind_named : List ℕ → Option KindName
-kind_named s = if bytes_eq s (codes "core.pinger") then Some kind.Pinger else (if bytes_eq s (codes "core.echo") then Some kind.Echo else (if bytes_eq s (codes "core.ticker") then Some kind.Ticker else (if bytes_eq s (codes "merlin.hr_router") then Some kind.Router else (if bytes_eq s (codes "merlin.test_nic") then Some kind.TestNic else None))))
+kind_named s = if bytes_eq s (codes "core.pinger") then Some kind.Pinger else (if bytes_eq s (codes "core.echo") then Some kind.Echo else (if bytes_eq s (codes "core.ticker") then Some kind.Ticker else (if bytes_eq s (codes "merlin.hr_router") then Some kind.Router else (if bytes_eq s (codes "merlin.test_nic") then Some kind.TestNic else (if bytes_eq s (codes "merlin.trafficgen") then Some kind.TrafficGen else None)))))
+
+-- whether a kind is an endpoint of a network
+abbrev pub is_endpoint : Option KindName → Bool
+is_endpoint None = false
+is_endpoint (Some kind.Pinger) = false
+is_endpoint (Some kind.Echo) = false
+is_endpoint (Some kind.Ticker) = false
+is_endpoint (Some kind.Router) = false
+is_endpoint (Some kind.TestNic) = true
+is_endpoint (Some kind.TrafficGen) = true
 
 -- ---- parameters
 
@@ -45,6 +55,7 @@ params_table kind.Echo = delay_row ∷ []
 params_table kind.Ticker = clock_row ∷ count_row ∷ primary_row ∷ []
 params_table kind.Router = []
 params_table kind.TestNic = []
+params_table kind.TrafficGen = []
 
 -- the number that digits write behind v, where it is at most `most`
 abbrev pub digits_value : ℕ → ℕ → List ℕ → Option ℕ
@@ -85,12 +96,17 @@ param_value ps r = value_or r (given ps (param_text r.name))
 
 -- ---- statistics
 
+-- the statistics of both endpoints
+abbrev pub nic_stats : List (List ℕ)
+nic_stats = codes "sent" ∷ codes "received" ∷ codes "latency" ∷ codes "out_of_order" ∷ []
+
 abbrev pub stats_table : KindName → List (List ℕ)
 stats_table kind.Pinger = stat_text stat.Roundtrip ∷ []
 stats_table kind.Echo = stat_text stat.Received ∷ []
 stats_table kind.Ticker = stat_text stat.Events ∷ []
 stats_table kind.Router = codes "sent" ∷ []
-stats_table kind.TestNic = codes "sent" ∷ codes "received" ∷ codes "latency" ∷ codes "out_of_order" ∷ []
+stats_table kind.TestNic = nic_stats
+stats_table kind.TrafficGen = nic_stats
 
 -- whether one of these is the name
 abbrev pub is_among : List (List ℕ) → List ℕ → Bool
@@ -112,6 +128,7 @@ ports_table kind.Echo = the_port ∷ []
 ports_table kind.Ticker = map free_port ticker_ports
 ports_table kind.Router = []
 ports_table kind.TestNic = []
+ports_table kind.TrafficGen = []
 
 -- the number of the first row with a name, where the rows' numbers begin with n
 abbrev pub port_from : ℕ → List PortRow → List ℕ → Option ℕ

@@ -4,11 +4,11 @@ ghost use Rattle.std.specs.Prelude.{◌≡◌, ◌++◌, ◌∷◌, [], ◌≤�
 ghost use Rattle.ss_graph.specs.Checks.{Judged, at};
 ghost use Rattle.mr_nic.specs.Kind.{NicFits};
 ghost use Rattle.ss_network.specs.Faults.{is_memory};
-ghost use Rattle.ss_network.specs.Asks.{router_of, endpoint_of};
+ghost use Rattle.ss_network.specs.Asks.{router_of, endpoint_of, generator_of};
 ghost use Rattle.ss_network.specs.Joined.{IsNetwork};
 ghost use Rattle.ss_network.specs.Network.{least as least_of, fits_pattern};
 ghost use Rattle.ss_network.specs.Ranges.{IsFitWork};
-ghost use Rattle.ss_fresh.specs.Starting.{nic_by};
+ghost use Rattle.ss_fresh.specs.Starting.{nic_by, begun_nic};
 ghost use Rattle.ss_fresh.specs.Tied.{AllCanRun};
 ghost use Rattle.ss_network.specs.declared.member.Member.TheVariants as member;
 ghost use Rattle.ss_library.specs.declared.table.KindName.TheVariants as kind;
@@ -26,7 +26,8 @@ use ss_fresh::{nic_settings, router_from};
 use ss_graph::{LimitKind, Part};
 use ss_kinds::{Echo, Pinger, StatName, TICKER_OUT, Ticker, place_in};
 use ss_network::{
-    EndpointAsk, MakeFault, Member, RouterAsk, Work, endpoint_at, item_place, least, router_at,
+    EndpointAsk, MakeFault, Member, RouterAsk, Work, endpoint_at, generator_at, item_place, least,
+    router_at,
 };
 use ss_stats::StatSet;
 use ss_units::Text;
@@ -103,13 +104,23 @@ fn router_in(alloc: Global, part: &Part, index: usize) -> Result<(RouterAsk, Sta
     Ok((router, stats))
 }
 
-/// What component `index`, an endpoint, asks for.
+/// What component `index`, a test endpoint, asks for.
 #[tactic(auto, using(ss_graph::proofs::Judging::first_fault_append), unfolding(ss_graph::specs::Checks::first_fault))]
 fn nic_in(alloc: Global, part: &Part, index: usize) -> Result<(EndpointAsk, StatSet), MakeFault>
     ensures { Judged is_memory (λ v. v) result (rows_by index part.now (Some kind.TestNic) ++ rest_by index part.now (Some kind.TestNic)) (endpoint_of part.now.params, empty_stats part.now.stats) }
 {
     let endpoint = endpoint_at(alloc, part.params.as_slice(), index)?;
     let stats = set_of(alloc, KindName::TestNic, part, index)?;
+    Ok((endpoint, stats))
+}
+
+/// What component `index`, a generator of traffic, asks for.
+#[tactic(auto, using(ss_graph::proofs::Judging::first_fault_append), unfolding(ss_graph::specs::Checks::first_fault))]
+fn traffic_in(alloc: Global, part: &Part, index: usize) -> Result<(EndpointAsk, StatSet), MakeFault>
+    ensures { Judged is_memory (λ v. v) result (rows_by index part.now (Some kind.TrafficGen) ++ rest_by index part.now (Some kind.TrafficGen)) (generator_of part.now.params, empty_stats part.now.stats) }
+{
+    let endpoint = generator_at(alloc, part.params.as_slice(), index)?;
+    let stats = set_of(alloc, KindName::TrafficGen, part, index)?;
     Ok((endpoint, stats))
 }
 
@@ -146,6 +157,10 @@ fn member_at(alloc: Global, part: &Part, index: usize) -> Result<Member, MakeFau
         }
         Some(KindName::TestNic) => {
             let (endpoint, _) = nic_in(alloc, part, index)?;
+            Ok(Member::Endpoint(endpoint))
+        }
+        Some(KindName::TrafficGen) => {
+            let (endpoint, _) = traffic_in(alloc, part, index)?;
             Ok(Member::Endpoint(endpoint))
         }
         None => Err(no_kind(alloc, index)?),
@@ -216,7 +231,30 @@ fn router_begun(
     Ok(Any::Router(router))
 }
 
-/// The endpoint that component `index` is as a run begins.
+/// The endpoint that asks for this, component `index`, as a run begins.
+fn nic_of(
+    alloc: Global,
+    wires: &Wires,
+    members: &[Member],
+    most: u32,
+    part: &Part,
+    index: usize,
+    endpoint: &EndpointAsk,
+    stats: StatSet,
+) -> Result<Any, AllocError>
+    requires few { index < 2 ^ 16 }
+    requires net { IsNetwork wires.now members.now }
+    requires run { AllCanRun members.now }
+    requires here { slice_get members.now index ≡ Some (member.Endpoint endpoint.now) }
+    requires most { most ≡ least_of members.now }
+    ensures { IfOk result (λ x. x ≡ any_nic endpoint.now.work (begun_nic wires.now members.now index part.now.name endpoint.now stats)) }
+{
+    let name = part.name.copy(alloc)?;
+    let set = nic_settings(wires, members, index as u32, name, endpoint, most);
+    nic_from(alloc, set, endpoint.work, endpoint.flits as u32, stats)
+}
+
+/// The test endpoint that component `index` is as a run begins.
 #[tactic(auto, unfolding(ss_graph::specs::Checks::first_fault))]
 fn nic_begun(
     alloc: Global,
@@ -234,9 +272,29 @@ fn nic_begun(
     ensures { Judged is_memory (λ x. x) result (rows_by index part.now (Some kind.TestNic) ++ rest_by index part.now (Some kind.TestNic)) (begun_by wires.now members.now index part.now (Some kind.TestNic)) }
 {
     let (endpoint, stats) = nic_in(alloc, part, index)?;
-    let name = part.name.copy(alloc)?;
-    let set = nic_settings(wires, members, index as u32, name, &endpoint, most);
-    let nic = nic_from(alloc, set, endpoint.work, endpoint.flits as u32, stats)?;
+    let nic = nic_of(alloc, wires, members, most, part, index, &endpoint, stats)?;
+    Ok(nic)
+}
+
+/// The generator of traffic that component `index` is as a run begins.
+#[tactic(auto, unfolding(ss_graph::specs::Checks::first_fault))]
+fn traffic_begun(
+    alloc: Global,
+    wires: &Wires,
+    members: &[Member],
+    most: u32,
+    part: &Part,
+    index: usize,
+) -> Result<Any, MakeFault>
+    requires few { index < 2 ^ 16 }
+    requires net { IsNetwork wires.now members.now }
+    requires run { AllCanRun members.now }
+    requires here { slice_get members.now index ≡ Some (member.Endpoint (generator_of part.now.params)) }
+    requires most { most ≡ least_of members.now }
+    ensures { Judged is_memory (λ x. x) result (rows_by index part.now (Some kind.TrafficGen) ++ rest_by index part.now (Some kind.TrafficGen)) (begun_by wires.now members.now index part.now (Some kind.TrafficGen)) }
+{
+    let (endpoint, stats) = traffic_in(alloc, part, index)?;
+    let nic = nic_of(alloc, wires, members, most, part, index, &endpoint, stats)?;
     Ok(nic)
 }
 
@@ -266,6 +324,7 @@ fn element_at(
         }
         Some(KindName::Router) => router_begun(alloc, wires, members, most, part, index),
         Some(KindName::TestNic) => nic_begun(alloc, wires, members, most, part, index),
+        Some(KindName::TrafficGen) => traffic_begun(alloc, wires, members, most, part, index),
         None => Err(no_kind(alloc, index)?),
     }
 }

@@ -7,6 +7,7 @@ mod making;
 #[cfg(test)]
 mod networks;
 mod param;
+mod restarting;
 mod simulated;
 mod stats;
 mod table;
@@ -16,4 +17,5 @@ mod tests;
 pub use kinds::Any;
 pub use making::make;
 pub use mr_flow::Load;
+pub use restarting::{a_made_model_can_be_judged, a_run_goes_on_from_what_is_spelled};
 pub use ss_network::MakeFault;

@@ -1,6 +1,6 @@
 //! The making of a graph's elements and wires.
 
-ghost use Rattle.std.specs.Prelude.{◌≡◌, ◌<◌, ◌≤◌, ◌+◌, ◌-◌, ◌*◌, ◌^◌, ◌∷◌, [], ◌++◌, codes, length, slice_get, Some, None, is_some, not, ◌||◌, map, OnOk, IfOk, ℕ};
+ghost use Rattle.std.specs.Prelude.{◌≡◌, ◌<◌, ◌≤◌, ◌+◌, ◌-◌, ◌*◌, ◌^◌, ◌∷◌, [], ◌++◌, codes, length, slice_get, Some, None, is_some, true, not, ◌||◌, map, OnOk, IfOk, ℕ};
 ghost use Rattle.ss_model.specs.Wiring.{link_at};
 ghost use Rattle.ss_model.specs.Step.{opening};
 ghost use Rattle.ss_element.specs.Index.{entries};
@@ -11,10 +11,11 @@ ghost use Rattle.ss_graph.specs.Links.{is_taken};
 ghost use Rattle.ss_graph.specs.Fit.{IsFit, ends_of};
 ghost use Rattle.ss_kinds.specs.Names.{port_text};
 ghost use Rattle.ss_library.specs.declared.table.KindName.TheVariants as kind;
-ghost use Rattle.ss_library.specs.Tables.{kind_named, ports_table};
+ghost use Rattle.ss_library.specs.Tables.{kind_named, is_endpoint, ports_table};
 ghost use Rattle.ss_network.specs.Faults.{is_memory};
 ghost use Rattle.ss_network.specs.Names.{rtr_text};
 ghost use Rattle.ss_library.specs.Make.{each_numbered, port_in, member_of, is_network as is_network_member, is_part, ports_of as rows_of, port_named as port_of_name, port_check, protocol_check, link_checks, links_checks, lines_of, linked_check, rtr_check, ports_checks, all_ports_checks, inner_of, make_checks, model_of, Made};
+ghost use Rattle.ss_library.specs.Order.{PacketsStayInOrder};
 
 use crate::element::{elements_of, members_of};
 use crate::kinds::Any;
@@ -46,7 +47,7 @@ fn port_named(part: &Part, member: &Member, text: &str) -> Option<u16>
 {
     match kind_of(part.kind.as_str()) {
         None => None,
-        Some(KindName::Router | KindName::TestNic) => member.port_of(text),
+        Some(KindName::Router | KindName::TestNic | KindName::TrafficGen) => member.port_of(text),
         Some(kind) => port_of(kind, text),
     }
 }
@@ -248,7 +249,7 @@ fn rows_linked(
 /// Whether the port of component `index`, an endpoint, is linked.
 fn is_rtr_joined(graph: &Graph, index: u32, part: &Part, wires: &Wires) -> bool
     requires there { slice_get graph.now.components index ≡ Some part.now }
-    requires kind { kind_named part.now.kind ≡ Some kind.TestNic }
+    requires kind { is_endpoint (kind_named part.now.kind) ≡ true }
     requires lines { wires.now.links ≡ each_numbered (lines_of graph.now.components) 0 graph.now.links }
     requires known { first_fault (links_checks graph.now.components graph.now.links) ≡ None }
     ensures { result ≡ is_taken (ends_of graph.now.links) (index, rtr_text) }
@@ -268,7 +269,7 @@ fn rtr_linked(
     wires: &Wires,
 ) -> Result<(), MakeFault>
     requires there { slice_get graph.now.components index ≡ Some part.now }
-    requires kind { kind_named part.now.kind ≡ Some kind.TestNic }
+    requires kind { is_endpoint (kind_named part.now.kind) ≡ true }
     requires few { index < 2 ^ 16 }
     requires lines { wires.now.links ≡ each_numbered (lines_of graph.now.components) 0 graph.now.links }
     requires known { first_fault (links_checks graph.now.components graph.now.links) ≡ None }
@@ -299,7 +300,9 @@ fn linked(
 {
     match kind_of(part.kind.as_str()) {
         None | Some(KindName::Router) => Ok(()),
-        Some(KindName::TestNic) => rtr_linked(alloc, graph, index, part, wires),
+        Some(KindName::TestNic | KindName::TrafficGen) => {
+            rtr_linked(alloc, graph, index, part, wires)
+        }
         Some(KindName::Pinger) => {
             rows_linked(alloc, graph, index, part, KindName::Pinger, wires)
         }
@@ -329,11 +332,16 @@ fn all_linked(alloc: Global, graph: &Graph, wires: &Wires) -> Result<(), MakeFau
 /// and the routers and endpoints are one network, as `ss_network::is_network` judges it. The lines of link `l` have the numbers `2l`, from
 /// left to right, and `2l + 1`; self lines and clocks are numbered on, component by component. Routers and endpoints begin with the
 /// credits that the queues at the other ends of their lines hold. The checks and their order are this project's own.
+///
+/// In each state of a run of what is made, from its start, each packet of the network is once in a place of its path or was delivered,
+/// and those of one source, destination and virtual network are in the order of their injection; endpoints tell of none that it came
+/// out of order, and of each that they received.
 #[tactic(auto, using(ss_graph::proofs::Judging::first_fault_append), unfolding(crate::specs::Make::make_checks))]
 pub fn make(alloc: Global, graph: &Graph) -> Result<Model<Any>, MakeFault>
     requires { IsFit graph.now }
     ensures safe { IfOk result (λ m. any_safe m.wires 0 (opening m.elements.items)) }
     ensures judged { Judged is_memory (λ m. record { elements = m.elements.items; wires = m.wires }) result (make_checks graph.now) (model_of graph.now) }
+    ensures order { IfOk result (λ m. PacketsStayInOrder graph.now (record { elements = m.elements.items; wires = m.wires })) }
 {
     let parts = graph.components.as_slice();
     let members = members_of(alloc, parts)?;

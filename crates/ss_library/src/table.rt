@@ -1,7 +1,7 @@
 //! The kinds' names, and the tables of their parameters, statistics and ports.
 
 ghost use Rattle.std.specs.Prelude.{◌≡◌, ◌∷◌, [], codes, ◌<◌, ◌≤◌, ◌^◌, slice_get, length, IfSome};
-ghost use Rattle.ss_library.specs.Tables.{kind_named, param_text, count_row, delay_row, clock_row, primary_row, stats_table, is_among, ports_table, port_by};
+ghost use Rattle.ss_library.specs.Tables.{kind_named, param_text, count_row, delay_row, clock_row, primary_row, nic_stats, stats_table, is_among, ports_table, port_by};
 
 use ss_kinds::{PortName, StatName, port_name, stat_name};
 
@@ -13,6 +13,7 @@ pub enum KindName {
     Ticker,
     Router,
     TestNic,
+    TrafficGen,
 }
 
 /// The name of a parameter.
@@ -129,6 +130,7 @@ pub fn kind_of(text: &str) -> Option<KindName>
         "core.ticker" => Some(KindName::Ticker),
         "merlin.hr_router" => Some(KindName::Router),
         "merlin.test_nic" => Some(KindName::TestNic),
+        "merlin.trafficgen" => Some(KindName::TrafficGen),
         _ => None,
     }
 }
@@ -153,7 +155,7 @@ pub fn has_stat(kind: KindName, name: &str) -> bool
         KindName::Echo => stat_name(StatName::Received) == name,
         KindName::Ticker => stat_name(StatName::Events) == name,
         KindName::Router => name == "sent",
-        KindName::TestNic => is_nic_stat(name),
+        KindName::TestNic | KindName::TrafficGen => is_nic_stat(name),
     }
 }
 
@@ -164,7 +166,7 @@ fn is_late_stat(name: &str) -> bool
 }
 
 fn is_nic_stat(name: &str) -> bool
-    ensures { result ≡ is_among (stats_table KindName.TestNic) name.now }
+    ensures { result ≡ is_among nic_stats name.now }
 {
     "sent" == name || "received" == name || is_late_stat(name)
 }
@@ -177,7 +179,7 @@ pub fn ports_of(kind: KindName) -> &'static [PortRow]
     match kind {
         KindName::Pinger | KindName::Echo => &ONE_PORT,
         KindName::Ticker => &TICKER_PORTS,
-        KindName::Router | KindName::TestNic => &NO_PORTS,
+        KindName::Router | KindName::TestNic | KindName::TrafficGen => &NO_PORTS,
     }
 }
 

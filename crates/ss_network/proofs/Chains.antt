@@ -6,7 +6,8 @@ use Rattle.ss_graph.proofs.Judging.{passes, fails_front, fails_behind}
 use Rattle.ss_network.specs.declared.fault.MakeFault.{MakeFault}
 use Rattle.ss_network.specs.Faults.{is_memory}
 use Rattle.ss_network.specs.Params.{Params}
-use Rattle.ss_network.specs.Asks.{buffers_checks}
+use Rattle.mr_nic.specs.declared.pattern.Pattern.{Pattern}
+use Rattle.ss_network.specs.Asks.{buffers_checks, aim_checks}
 
 -- the fault of a list in the middle
 pub fails_in : (e : MakeFault) (xs ys zs : List (Check MakeFault)) → first_fault xs ≡ None → Fails is_memory e (first_fault ys) → Fails is_memory e (first_fault (xs ++ (ys ++ zs)))
@@ -25,3 +26,10 @@ same_buffers P i ps a b t u p q e f g h =
 
 pub fails_same : (e : MakeFault) (i : ℕ) (ps : Params) (a b : ℕ) (t u p q : Result ℕ UnitFault) → a ≡ b → t ≡ u → p ≡ q → Fails is_memory e (first_fault (buffers_checks i a t p ps)) → Fails is_memory e (first_fault (buffers_checks i b u q ps))
 fails_same e i ps a b t u p q x y z h = same_buffers (λ cs. Fails is_memory e (first_fault cs)) i ps a b t u p q x y z h
+
+-- checks of an aim for the same number of endpoints and pattern
+pub same_aim : (P : List (Check MakeFault) → Type 0) (i : ℕ) (ps : Params) (m n : ℕ) (p q : Pattern) → m ≡ n → p ≡ q → P (aim_checks i ps m p) → P (aim_checks i ps n q)
+same_aim P i ps m n p q e f h = subst (λ (r : Pattern). P (aim_checks i ps n r)) f (subst (λ (k : ℕ). P (aim_checks i ps k p)) e h)
+
+pub fails_aim : (e : MakeFault) (i : ℕ) (ps : Params) (m n : ℕ) (p q : Pattern) → m ≡ n → p ≡ q → Fails is_memory e (first_fault (aim_checks i ps m p)) → Fails is_memory e (first_fault (aim_checks i ps n q))
+fails_aim e i ps m n p q x y h = same_aim (λ cs. Fails is_memory e (first_fault cs)) i ps m n p q x y h

@@ -1,5 +1,5 @@
 -- What routers and endpoints ask for is within what can be run.
-use Rattle.std.proofs.Common.{◌≡◌, ℕ, zero, suc, ◌+◌, ◌*◌, ◌/◌, ◌%◌, ◌^◌, ◌≤◌, ◌==◌, ◌&&◌, ◌||◌, List, [], ◌∷◌, Bool, true, false, Option, Some, None, Result, Ok, Err, is_some, nat_le, if◌then◌else◌, refl, sym, subst, arith}
+use Rattle.std.proofs.Common.{◌≡◌, ℕ, zero, suc, ◌+◌, ◌-◌, ◌*◌, ◌/◌, ◌%◌, ◌^◌, ◌≤◌, ◌<◌, ◌==◌, ◌&&◌, ◌||◌, List, [], ◌∷◌, Bool, true, false, Option, Some, None, Result, Ok, Err, is_some, nat_le, if◌then◌else◌, refl, sym, subst, arith}
 use Rattle.std.specs.Int.{div_ceil}
 use Rattle.std.proofs.lemmas.Grind.{div_ceil_times}
 use Rattle.std.specs.Prelude.{length, unwrap_or}
@@ -9,6 +9,7 @@ use Rattle.mr_topo.specs.Grid.{Grid, IsGrid, is_grid, grid_by, grid_of}
 use Rattle.mr_topo.proofs.Shapes.{is_grid-gives}
 use Rattle.mr_fattree.specs.Tree.{is_tree, tree_by, tree_of, levels_of}
 use Rattle.mr_fattree.proofs.Shapes.{is_tree-gives}
+use Rattle.mr_nic.specs.declared.pattern.Pattern.{Pattern}
 use Rattle.mr_router.specs.declared.topology.Topology.{Topology}
 use Rattle.mr_router.specs.declared.topology.Topology.TheVariants as topology
 use Rattle.ss_network.specs.declared.param.TopologyName.{TopologyName}
@@ -19,8 +20,8 @@ use Rattle.ss_units.specs.declared.units.UnitFault.TheVariants.{OutOfRange}
 use Rattle.ss_graph.specs.Checks.{Check, first_fault}
 use Rattle.ss_graph.specs.Options.{the}
 use Rattle.ss_network.specs.declared.param.ParamRow.{ParamRow}
-use Rattle.ss_network.specs.Params.{Params, number, row_check, IsNumber, FitsDefault, id_row, local_ports_row, num_vns_row, flit_size_row, xbar_bw_row, input_buf_row, output_buf_row, num_peers_row, num_messages_row, message_size_row}
-use Rattle.ss_network.specs.Asks.{name_of, local_ports, shape_text, mesh_by, torus_by, tree_in, shaped, shaped_in, or_single, the_topology, topology_checks, pace_checks, pace_of, lasts, capacity_of, flits_in, buffers_checks, line_time, cross_time, or_zero, router_checks, router_of, endpoint_checks, endpoint_of}
+use Rattle.ss_network.specs.Params.{Params, number, row_check, IsNumber, FitsDefault, id_row, local_ports_row, num_vns_row, flit_size_row, xbar_bw_row, input_buf_row, output_buf_row, num_peers_row, num_messages_row, message_size_row, packets_row, packet_size_row, vn_row, hot_row, the_pattern}
+use Rattle.ss_network.specs.Asks.{name_of, local_ports, shape_text, mesh_by, torus_by, tree_in, shaped, shaped_in, or_single, the_topology, topology_checks, pace_checks, pace_of, lasts, capacity_of, flits_in, buffers_checks, line_time, cross_time, or_zero, router_checks, router_of, endpoint_checks, endpoint_of, networks_in, batch_checks, batch_of, has_hot, hot_checks, hot_of, aim_checks, aim_of, own_aim, generator_checks, generator_of}
 use Rattle.ss_network.specs.Ranges.{IsQueue, IsTime, IsBuilt, IsFitRouter, IsFitEndpoint}
 use Rattle.ss_network.proofs.Numbers.{number_fits}
 use Rattle.ss_network.proofs.Joined.{none-both, none-cons}
@@ -228,6 +229,69 @@ endpoint_fits i ps e =
       few_peers = n.1;
       work = (row-fits i ps num_messages_row _ (omega arith, omega arith) k.1).1;
       flits = ceil-some (the (number ps message_size_row)) (pace_of ps).flit_bits m.0 p.flit;
+      networks = p.networks.0;
+      few_networks = p.networks.1;
+      time = time-of _ (pace_of ps).flit_bits (pace_of ps).link p.flit q.input.time;
+      input = queue-of _ (line_time ps) q.input.some q.input.few q.input.time;
+      output = queue-of _ (line_time ps) q.output.some q.output.few q.output.time;
+    }
+
+-- generators
+
+below-of : (n k : ℕ) → 1 ≤ n → k ≤ n - 1 → k < n
+below-of n k o h = omega (arith, o, h)
+
+networks-same : (o : Option ℕ) → is_some o ≡ true → unwrap_or o 2 ≡ the o
+networks-same None e = absurd (grind (arith, e))
+networks-same (Some n) e = refl
+
+hot-below : (i : ℕ) (ps : Params) (peers : ℕ) (b : Bool) → 1 ≤ peers → first_fault (hot_checks i ps peers b) ≡ None → hot_of ps peers b < peers
+hot-below i ps peers true o e = below-of peers _ o (row-fits i ps (hot_row peers) _ (omega arith, omega arith) e).1
+hot-below i ps peers false o e = omega (arith, o)
+
+record Aimed (ps : Params) (peers : ℕ) (p : Pattern) : Type 0 where
+  vn : (aim_of ps peers p).vn ≤ networks_in ps - 1
+  hot : (aim_of ps peers p).hot < peers
+
+aim-read : (i : ℕ) (ps : Params) (peers : ℕ) (p : Pattern) → 1 ≤ peers → first_fault (aim_checks i ps peers p) ≡ None → Aimed ps peers p
+unfolding aim_checks
+aim-read i ps peers p o e =
+    let a = none-cons _ _ _ e in
+    let b = none-cons _ _ _ a.1 in
+    record { vn = (row-fits i ps (vn_row (networks_in ps)) _ (omega arith, omega arith) e).1; hot = hot-below i ps peers (has_hot p) o b.1 }
+
+record Sent (ps : Params) : Type 0 where
+  count : (batch_of ps).count ≤ 1000000
+  bits : 1 ≤ (batch_of ps).bits
+
+batch-read : (i : ℕ) (ps : Params) → first_fault (batch_checks i ps) ≡ None → Sent ps
+unfolding batch_checks
+batch-read i ps e =
+    let a = none-cons _ _ _ e in
+    let b = none-cons _ _ _ a.1 in
+    record { count = (row-fits i ps packets_row _ (omega arith, omega arith) a.1).1; bits = (row-fits i ps packet_size_row _ (omega arith, omega arith) b.1).0 }
+
+pub generator_fits : (i : ℕ) (ps : Params) → first_fault (generator_checks i ps) ≡ None → IsFitEndpoint (generator_of ps)
+unfolding generator_checks pace_checks
+generator_fits i ps e =
+    let a = none-both (row_check i ps id_row ∷ row_check i ps num_peers_row ∷ []) _ e in
+    let b = none-both (batch_checks i ps) _ a.1 in
+    let d = none-both (aim_checks i ps (the (number ps num_peers_row)) (the_pattern ps)) _ b.1 in
+    let g = none-both (pace_checks i ps) _ d.1 in
+    let h = none-cons _ _ _ a.0 in
+    let n = row-fits i ps num_peers_row _ tt h.1 in
+    let m = batch-read i ps b.0 in
+    let t = aim-read i ps (the (number ps num_peers_row)) (the_pattern ps) (omega (arith, n.0)) d.0 in
+    let p = pace-read i ps g.0 in
+    let q = buffers-read i ps (line_time ps) (line_time ps) g.1 in
+    let z = row-fits i ps id_row _ tt a.0 in
+    let v = networks-same (number ps num_vns_row) (none-cons _ _ _ g.0).0 in
+    record {
+      id = omega (arith, z.1);
+      peers = n.0;
+      few_peers = n.1;
+      work = (m.count, below-of (pace_of ps).vns (own_aim ps).vn p.networks.0 (subst (λ (k : ℕ). (own_aim ps).vn ≤ k - 1) v t.vn), t.hot);
+      flits = ceil-some (batch_of ps).bits (pace_of ps).flit_bits m.bits p.flit;
       networks = p.networks.0;
       few_networks = p.networks.1;
       time = time-of _ (pace_of ps).flit_bits (pace_of ps).link p.flit q.input.time;

@@ -13,6 +13,10 @@ use Rattle.ss_network.specs.declared.ask.EndpointAsk.{EndpointAsk}
 use Rattle.ss_network.specs.declared.ask.Work.TheVariants as work
 use Rattle.ss_network.specs.declared.ask.Pace.{Pace}
 use Rattle.ss_network.specs.declared.ask.Buffers.{Buffers}
+use Rattle.ss_network.specs.declared.generator.Batch.{Batch}
+use Rattle.ss_network.specs.declared.generator.Aim.{Aim}
+use Rattle.mr_nic.specs.declared.pattern.Pattern.{Pattern}
+use Rattle.mr_nic.specs.declared.pattern.Pattern.TheVariants as pattern
 use Rattle.mr_router.specs.declared.topology.Topology.{Topology}
 use Rattle.mr_router.specs.declared.topology.Topology.TheVariants as topology
 use Rattle.ss_network.specs.declared.param.ParamRow.{ParamRow}
@@ -21,7 +25,7 @@ use Rattle.ss_network.specs.declared.param.TopologyName.TheVariants as name
 use Rattle.ss_network.specs.declared.fault.MakeFault.{MakeFault}
 use Rattle.ss_network.specs.declared.fault.MakeFault.TheVariants as fault
 use Rattle.ss_network.specs.Faults.{param_place}
-use Rattle.ss_network.specs.Params.{Params, given, number, row_check, param_text, topology_named, the_arb, arb_check, id_row, local_ports_row, num_vns_row, flit_size_row, link_bw_row, xbar_bw_row, input_buf_row, output_buf_row, num_peers_row, num_messages_row, message_size_row, verbose_row}
+use Rattle.ss_network.specs.Params.{Params, given, number, row_check, param_text, topology_named, the_arb, arb_check, the_pattern, pattern_check, id_row, local_ports_row, num_vns_row, flit_size_row, link_bw_row, xbar_bw_row, input_buf_row, output_buf_row, num_peers_row, num_messages_row, message_size_row, verbose_row, packets_row, packet_size_row, vn_row, seed_row, hot_row}
 
 -- ---- topologies
 
@@ -166,6 +170,66 @@ endpoint_of ps = record {
   peers = the (number ps num_peers_row);
   flits = div_ceil (the (number ps message_size_row)) (pace_of ps).flit_bits;
   work = work.Messages (the (number ps num_messages_row)) (the (number ps verbose_row) == 1);
+  vns = (pace_of ps).vns;
+  flit_bits = (pace_of ps).flit_bits;
+  flit_time = or_zero (line_time ps);
+  input_flits = (buffers_of (pace_of ps).flit_bits (line_time ps) (line_time ps) ps).input;
+  output_flits = (buffers_of (pace_of ps).flit_bits (line_time ps) (line_time ps) ps).output;
+}
+
+-- ---- generators of traffic
+
+-- how many virtual networks there are; a text that is no such number counts as 2 where a generator's own network is judged
+abbrev pub networks_in : Params → ℕ
+networks_in ps = unwrap_or (number ps num_vns_row) 2
+
+unfoldable pub batch_checks : ℕ → Params → List (Check MakeFault)
+batch_checks i ps = pattern_check i ps ∷ row_check i ps packets_row ∷ row_check i ps packet_size_row ∷ []
+
+abbrev pub batch_of : Params → Batch
+batch_of ps = record { pattern = the_pattern ps; count = the (number ps packets_row); bits = the (number ps packet_size_row) }
+
+-- which pattern has a hot endpoint; for the others it isn't read
+abbrev pub has_hot : Pattern → Bool
+has_hot pattern.Uniform = false
+has_hot pattern.Complement = false
+has_hot pattern.Transpose = false
+has_hot pattern.Hotspot = true
+has_hot pattern.Tornado = false
+
+abbrev pub hot_checks : ℕ → Params → ℕ → Bool → List (Check MakeFault)
+hot_checks i ps peers true = row_check i ps (hot_row peers) ∷ []
+hot_checks i ps peers false = []
+
+abbrev pub hot_of : Params → ℕ → Bool → ℕ
+hot_of ps peers true = the (number ps (hot_row peers))
+hot_of ps peers false = 0
+
+-- the network, the seed and the hot endpoint of packets by a pattern to one of so many endpoints
+unfoldable pub aim_checks : ℕ → Params → ℕ → Pattern → List (Check MakeFault)
+aim_checks i ps peers p = row_check i ps (vn_row (networks_in ps)) ∷ row_check i ps seed_row ∷ hot_checks i ps peers (has_hot p)
+
+abbrev pub aim_of : Params → ℕ → Pattern → Aim
+aim_of ps peers p = record { vn = the (number ps (vn_row (networks_in ps))); seed = the (number ps seed_row); hot = hot_of ps peers (has_hot p) }
+
+-- the aim of a generator's own pattern and number of endpoints
+abbrev pub own_aim : Params → Aim
+own_aim ps = aim_of ps (the (number ps num_peers_row)) (the_pattern ps)
+
+unfoldable pub generator_checks : ℕ → Params → List (Check MakeFault)
+generator_checks i ps =
+    (row_check i ps id_row ∷ row_check i ps num_peers_row ∷ [])
+    ++ (batch_checks i ps
+    ++ (aim_checks i ps (the (number ps num_peers_row)) (the_pattern ps)
+    ++ (pace_checks i ps
+    ++ buffers_checks i (pace_of ps).flit_bits (line_time ps) (line_time ps) ps)))
+
+abbrev pub generator_of : Params → EndpointAsk
+generator_of ps = record {
+  id = the (number ps id_row);
+  peers = the (number ps num_peers_row);
+  flits = div_ceil (batch_of ps).bits (pace_of ps).flit_bits;
+  work = work.Packets (batch_of ps).count (batch_of ps).pattern (own_aim ps).vn (own_aim ps).seed (own_aim ps).hot;
   vns = (pace_of ps).vns;
   flit_bits = (pace_of ps).flit_bits;
   flit_time = or_zero (line_time ps);

@@ -6,6 +6,8 @@ use Rattle.ss_graph.specs.Checks.{Check, check}
 use Rattle.ss_graph.specs.Options.{ranged}
 use Rattle.mr_arb.specs.declared.ArbKind.{ArbKind}
 use Rattle.mr_arb.specs.declared.ArbKind.TheVariants as arb
+use Rattle.mr_nic.specs.declared.pattern.Pattern.{Pattern}
+use Rattle.mr_nic.specs.declared.pattern.Pattern.TheVariants as pattern
 use Rattle.ss_network.specs.declared.fault.MakeFault.{MakeFault}
 use Rattle.ss_network.specs.declared.fault.MakeFault.TheVariants as fault
 use Rattle.ss_network.specs.declared.param.ParamName.{ParamName}
@@ -81,6 +83,23 @@ message_size_row = record { name = param.MessageSize; form = form.Size; default 
 
 abbrev pub verbose_row : ParamRow
 verbose_row = record { name = param.Verbose; form = form.Truth; default = Some 0 }
+
+abbrev pub packets_row : ParamRow
+packets_row = record { name = param.Packets; form = form.Count 0 1000000; default = Some 10 }
+
+abbrev pub packet_size_row : ParamRow
+packet_size_row = record { name = param.PacketSize; form = form.Size; default = Some 512 }
+
+-- a virtual network, of so many
+abbrev pub vn_row : ℕ → ParamRow
+vn_row vns = record { name = param.Vn; form = form.Count 0 (vns - 1); default = Some 0 }
+
+abbrev pub seed_row : ParamRow
+seed_row = record { name = param.Seed; form = form.Count 0 (2 ^ 64 - 1); default = Some 0 }
+
+-- a hot endpoint, of so many
+abbrev pub hot_row : ℕ → ParamRow
+hot_row peers = record { name = param.Hot; form = form.Count 0 (peers - 1); default = Some 0 }
 
 -- ---- values
 
@@ -163,3 +182,24 @@ the_arb ps = arb_in (arb_of ps)
 
 abbrev pub arb_check : ℕ → Params → Check MakeFault
 arb_check i ps = check (is_some (arb_of ps)) (fault.Param (param_place i (codes "xbar_arb")))
+
+abbrev pub pattern_named : List ℕ → Option Pattern
+pattern_named s = if bytes_eq s (codes "uniform") then Some pattern.Uniform else (if bytes_eq s (codes "complement") then Some pattern.Complement else (if bytes_eq s (codes "transpose") then Some pattern.Transpose else (if bytes_eq s (codes "hotspot") then Some pattern.Hotspot else (if bytes_eq s (codes "tornado") then Some pattern.Tornado else None))))
+
+-- a pattern is required
+abbrev pub pattern_by : Option (List ℕ) → Option Pattern
+pattern_by None = None
+pattern_by (Some s) = pattern_named s
+
+abbrev pub pattern_of : Params → Option Pattern
+pattern_of ps = pattern_by (given ps (codes "pattern"))
+
+abbrev pub pattern_in : Option Pattern → Pattern
+pattern_in None = pattern.Uniform
+pattern_in (Some p) = p
+
+abbrev pub the_pattern : Params → Pattern
+the_pattern ps = pattern_in (pattern_of ps)
+
+abbrev pub pattern_check : ℕ → Params → Check MakeFault
+pattern_check i ps = check (is_some (pattern_of ps)) (fault.Param (param_place i (codes "pattern")))

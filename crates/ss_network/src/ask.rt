@@ -176,7 +176,7 @@ fn topology_at(alloc: Global, params: &[(Text, Text)], index: usize) -> Result<T
 
 /// The virtual networks, flits and lines of component `index`.
 #[tactic(auto, unfolding(ss_graph::specs::Checks::first_fault, crate::specs::Asks::pace_checks))]
-fn pace_at(alloc: Global, params: &[(Text, Text)], index: usize) -> Result<Pace, MakeFault>
+pub fn pace_at(alloc: Global, params: &[(Text, Text)], index: usize) -> Result<Pace, MakeFault>
     ensures judged { Judged is_memory (λ p. p) result (pace_checks index params.now) (pace_of params.now) }
     ensures flits { IfOk result (λ p. 1 ≤ p.flit_bits) }
 {
@@ -238,7 +238,7 @@ fn buffer_at(
 
 /// The buffers of component `index`.
 #[tactic(auto, unfolding(ss_graph::specs::Checks::first_fault, crate::specs::Asks::buffers_checks))]
-fn buffers_at(
+pub fn buffers_at(
     alloc: Global,
     params: &[(Text, Text)],
     index: usize,
@@ -254,7 +254,7 @@ fn buffers_at(
     Ok(Buffers { input, output })
 }
 
-fn time_or_zero(time: Result<u64, UnitFault>) -> u64
+pub fn time_or_zero(time: Result<u64, UnitFault>) -> u64
     ensures { result ≡ or_zero time }
 {
     match time {

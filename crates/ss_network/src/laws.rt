@@ -3,7 +3,7 @@
 ghost use Rattle.std.specs.Prelude.{◌≡◌, ℕ, List, None};
 ghost use Rattle.ss_graph.specs.Checks.{first_fault};
 ghost use Rattle.ss_network.specs.Params.{Params};
-ghost use Rattle.ss_network.specs.Asks.{router_checks, router_of, endpoint_checks, endpoint_of};
+ghost use Rattle.ss_network.specs.Asks.{router_checks, router_of, endpoint_checks, endpoint_of, generator_checks, generator_of};
 ghost use Rattle.ss_network.specs.Ranges.{IsFitRouter, IsFitEndpoint};
 ghost use Rattle.ss_model.specs.Wiring.{Wiring};
 ghost use Rattle.ss_network.specs.declared.member.Member.{Member};
@@ -47,9 +47,11 @@ pub fn numbers_are_of_one_each()
     ensures { (w : Wiring) (ms : List Member) → IsNetwork w ms → OneOfEach ms }
 {}
 
-/// What a router or an endpoint asks for by parameters that pass is within what can be run: no queue lasts longer than 2^40 ps.
-#[tactic(auto, using(crate::proofs::Ranges::router_fits, crate::proofs::Ranges::endpoint_fits))]
+/// What a router, an endpoint or a generator asks for by parameters that pass is within what can be run: no queue lasts longer than
+/// 2^40 ps, and a generator's network and hot endpoint are there.
+#[tactic(auto, using(crate::proofs::Ranges::router_fits, crate::proofs::Ranges::endpoint_fits, crate::proofs::Ranges::generator_fits))]
 pub fn what_is_asked_for_can_be_run()
     ensures routers { (i : ℕ) (ps : Params) → first_fault (router_checks i ps) ≡ None → IsFitRouter (router_of ps) }
     ensures endpoints { (i : ℕ) (ps : Params) → first_fault (endpoint_checks i ps) ≡ None → IsFitEndpoint (endpoint_of ps) }
+    ensures generators { (i : ℕ) (ps : Params) → first_fault (generator_checks i ps) ≡ None → IsFitEndpoint (generator_of ps) }
 {}

@@ -4,6 +4,7 @@
 
 mod ask;
 mod fault;
+mod generator;
 mod laws;
 mod links;
 mod member;
@@ -14,6 +15,7 @@ mod place;
 
 pub use ask::{Buffers, EndpointAsk, Pace, RouterAsk, Work, endpoint_at, router_at};
 pub use fault::MakeFault;
+pub use generator::{Aim, Batch, generator_at};
 pub use laws::{
     endpoints_are_at_their_routers, endpoints_fit_the_routers, lines_have_equal_channels,
     numbers_are_of_one_each, ports_lead_to_their_peers, routers_are_of_one_topology,

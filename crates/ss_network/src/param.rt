@@ -5,11 +5,12 @@ ghost use Rattle.std.specs.Option.{option_copied};
 ghost use Rattle.ss_graph.specs.Checks.{Judged, at};
 ghost use Rattle.ss_graph.specs.Options.{the, ranged};
 ghost use Rattle.ss_network.specs.Faults.{is_memory, param_place};
-ghost use Rattle.ss_network.specs.Params.{digits_value, count_value, truth_value, value_of, given, param_text, number, row_check, IsNumber, FitsDefault, topology_named, arb_named, arb_of, the_arb, arb_check};
+ghost use Rattle.ss_network.specs.Params.{digits_value, count_value, truth_value, value_of, given, param_text, number, row_check, IsNumber, FitsDefault, topology_named, arb_named, arb_of, the_arb, arb_check, vn_row, hot_row, pattern_named, pattern_of, the_pattern, pattern_check};
 
 use crate::fault::MakeFault;
 use crate::place::item_place;
 use mr_arb::ArbKind;
+use mr_nic::Pattern;
 use ss_units::{Text, UnitFault, bits_of, rate_of};
 use std::alloc::{AllocError, Global};
 
@@ -164,6 +165,63 @@ pub const VERBOSE: ParamRow = ParamRow {
     form: Form::Truth,
     default: Some(0),
 };
+
+/// How many packets a generator sends.
+pub const PACKETS: ParamRow = ParamRow {
+    name: ParamName::Packets,
+    form: Form::Count {
+        least: 0,
+        most: 1_000_000,
+    },
+    default: Some(10),
+};
+
+/// How many bits a packet has.
+pub const PACKET_SIZE: ParamRow = ParamRow {
+    name: ParamName::PacketSize,
+    form: Form::Size,
+    default: Some(512),
+};
+
+/// The number whose words pick the endpoints of uniform traffic.
+pub const SEED: ParamRow = ParamRow {
+    name: ParamName::Seed,
+    form: Form::Count {
+        least: 0,
+        most: u64::MAX,
+    },
+    default: Some(0),
+};
+
+/// On which of so many virtual networks a generator sends.
+pub fn vn_of(vns: u8) -> ParamRow
+    requires { 1 ≤ vns }
+    ensures { result ≡ vn_row vns }
+{
+    ParamRow {
+        name: ParamName::Vn,
+        form: Form::Count {
+            least: 0,
+            most: u64::from(vns - 1),
+        },
+        default: Some(0),
+    }
+}
+
+/// To which of so many endpoints a hotspot's packets go.
+pub fn hot_of(peers: u32) -> ParamRow
+    requires { 1 ≤ peers }
+    ensures { result ≡ hot_row peers }
+{
+    ParamRow {
+        name: ParamName::Hot,
+        form: Form::Count {
+            least: 0,
+            most: u64::from(peers - 1),
+        },
+        default: Some(0),
+    }
+}
 
 pub fn param_name(name: ParamName) -> &'static str
     ensures { result.now ≡ param_text name }
@@ -354,5 +412,43 @@ pub fn arb_at(alloc: Global, params: &[(Text, Text)], index: usize) -> Result<Ar
     match arb_in(params) {
         Some(arb) => Ok(arb),
         None => Err(MakeFault::Param(place_of(alloc, index, ParamName::XbarArb)?)),
+    }
+}
+
+/// The pattern of a name.
+fn pattern_by(text: &str) -> Option<Pattern>
+    ensures { result ≡ pattern_named text.now }
+{
+    match text {
+        "uniform" => Some(Pattern::Uniform),
+        "complement" => Some(Pattern::Complement),
+        "transpose" => Some(Pattern::Transpose),
+        "hotspot" => Some(Pattern::Hotspot),
+        "tornado" => Some(Pattern::Tornado),
+        _ => None,
+    }
+}
+
+fn pattern_in(params: &[(Text, Text)]) -> Option<Pattern>
+    ensures { result ≡ pattern_of params.now }
+{
+    match text_of(params, ParamName::Pattern) {
+        None => None,
+        Some(text) => pattern_by(text),
+    }
+}
+
+/// The pattern of component `index`.
+#[tactic(auto, unfolding(ss_graph::specs::Checks::first_fault))]
+pub fn pattern_at(
+    alloc: Global,
+    params: &[(Text, Text)],
+    index: usize,
+) -> Result<Pattern, MakeFault>
+    ensures { Judged is_memory (λ p. p) result (pattern_check index params.now ∷ []) (the_pattern params.now) }
+{
+    match pattern_in(params) {
+        Some(pattern) => Ok(pattern),
+        None => Err(MakeFault::Param(place_of(alloc, index, ParamName::Pattern)?)),
     }
 }

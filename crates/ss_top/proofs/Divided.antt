@@ -18,6 +18,7 @@ use Rattle.ss_library.specs.Kinds.{any_kind, any_safe}
 use Rattle.ss_library.specs.Laws.{any_world}
 use Rattle.ss_library.specs.Make.{model_of, wiring_of, members_of}
 use Rattle.ss_library.specs.Meaning.{any_meaning}
+use Rattle.ss_library.specs.Saved.{any_saving}
 use Rattle.ss_library.proofs.Begun.{begun_count}
 use Rattle.ss_cmd.specs.declared.RunOptions.{RunOptions}
 use Rattle.ss_run.specs.declared.RunSpec.{RunSpec}
@@ -64,7 +65,7 @@ saw_all : (old new cuts : List Given) → old ≡ [] → seen_of new ≡ seen_of
 saw_all old new cuts e s = ap (λ (o : Option Seen). option_map_or (λ x. x.accepted) o []) s ∙ ap (λ (l : List Given). l ++ cuts) e
 
 pub done_is : (r : RunSpec) (e : Ending) (old new : List Given) (d : Done) → old ≡ []
-    → Answers any_kind any_meaning r (Ok e) (seen_of old) (seen_of new)
+    → Answers any_kind any_saving any_meaning r (Ok e) (seen_of old) (seen_of new)
     → d.lines.items ≡ lines_of new → d.time ≡ e.time → d.windows ≡ e.windows → AllStandAt r e.windows d.workers.items → IsDone r d
 done_is r e old new d none a l t w s = record {
   outcome = a.2.outcome;

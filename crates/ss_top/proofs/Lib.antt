@@ -11,5 +11,6 @@ pub mod Gathering
 pub mod Joining
 pub mod Dealing
 pub mod Divided
+pub mod Telling
 pub mod Simulating
 pub mod Complete

@@ -18,7 +18,6 @@ use Rattle.ss_library.specs.Laws.{any_world}
 use Rattle.ss_graph.specs.declared.graph.Graph.{Graph}
 use Rattle.ss_library.specs.Meaning.{any_accepts, any_meaning, any_opening}
 use Rattle.ss_run.specs.declared.Origin.{Origin}
-use Rattle.ss_run.specs.declared.Origin.TheVariants as origin
 use Rattle.ss_library.specs.Opens.{any_opens}
 use Rattle.ss_run.specs.declared.RunSpec.{RunSpec}
 use Rattle.ss_run.specs.Run.{IsFitting, division, wires_of, start_of, view, PartState, IsPartAt}
@@ -139,8 +138,7 @@ module _ (r : RunSpec) (f : IsFitting any_kind any_meaning r) (windows : ℕ) (w
       at_end n.last n.opened
 
   accepted_whole : (g : Graph) (o : Origin) → any_accepts g o → length (any_opening g o).state.components ≡ length g.components
-  accepted_whole g origin.Start m = m.whole
-  accepted_whole g (origin.Saved bytes) m = absurd m
+  accepted_whole g o m = (any_opens g o m).whole
 
   -- the lists of a run's workers after its last window are those of its parts
   pub parts_are : (n : Has r windows) → AreParts r.partition.list lists n.last.whole.state

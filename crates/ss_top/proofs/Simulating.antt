@@ -13,7 +13,8 @@ use Rattle.ss_graph.specs.Judge.{text_checks, graph_of}
 use Rattle.ss_library.specs.declared.kinds.Any.{Any}
 use Rattle.mr_flow.specs.declared.Load.{Load}
 use Rattle.ss_network.specs.declared.fault.MakeFault.{MakeFault}
-use Rattle.ss_library.specs.Make.{Made, make_checks, model_of}
+use Rattle.ss_library.specs.Make.{make_checks, model_of}
+use Rattle.ss_library.specs.Order.{PacketsStayInOrder}
 use Rattle.ss_network.specs.Faults as making
 use Rattle.ss_serial.specs.Serial.{Standing, standing, Ran}
 use Rattle.ss_top.specs.Judge.{Judged, not_text, at_fault, past_limit, accepted, judge, judged_made, refused_by, unmade_by, elements, Prints}
@@ -36,6 +37,7 @@ use Rattle.ss_top.specs.declared.sheets.Printed.{Printed}
 use Rattle.ss_top.specs.Left.{Working, AreWorkers}
 use Rattle.ss_top.specs.Report.{run_of}
 use Rattle.ss_top.specs.Spreading.{parts_of}
+use Rattle.ss_top.specs.Tells.{StatisticsTellOrder}
 use Rattle.ss_top.proofs.Judging.{judge_refused, judge_made}
 
 module _ (w : Wiring) (xs : List Any) (l : Limits) (t : ℕ) (ls : List Line) (left : List Any) where
@@ -146,12 +148,12 @@ module _ (g : Graph) (graph : List ℕ) (workers : List Working) where
   undivided_for o = refusal g (parts_for o) o.spread.how
 
   -- a graph that was divided and run
-  pub run_accepted : (o : RunOptions) (parts : ℕ) (r : Printed) → parts ≡ parts_for o → refusal g parts o.spread.how ≡ None → HasRun g o parts workers r → IsVerdict (plan.Run graph o) g accepted workers (verdict.Ran r)
-  run_accepted o parts r is none h =
+  pub run_accepted : (o : RunOptions) (parts : ℕ) (r : Printed) → parts ≡ parts_for o → refusal g parts o.spread.how ≡ None → PacketsStayInOrder g (model_of g) → StatisticsTellOrder g o.stop_at → HasRun g o parts workers r → IsVerdict (plan.Run graph o) g accepted workers (verdict.Ran r)
+  run_accepted o parts r is none order tells h =
       let a : AnswersRun o g parts (whole (texts_by r) (puts_by r.sheets.items)) = (texts_by r, h.left, h.reports, h.prints, h.reported, ap (whole (texts_by r)) h.puts) in
       let d : AnswersDivided graph o g parts (refusal g parts o.spread.how) (whole (texts_by r) (puts_by r.sheets.items)) = subst (λ (f : Option PartFault). AnswersDivided graph o g parts f (whole (texts_by r) (puts_by r.sheets.items))) (sym none) a in (
         subst (λ n. AnswersDivided graph o g n (refusal g n o.spread.how) (whole (texts_by r) (puts_by r.sheets.items))) is d,
-        subst (λ n. 2 ≤ n → AreWorkers (run_of g o.stop_at n (assigned g n o.spread.how)) workers) is h.leaves,
+        (order, tells, subst (λ n. 2 ≤ n → AreWorkers (run_of g o.stop_at n (assigned g n o.spread.how)) workers) is h.leaves),
       )
 
   not_divided : (o : RunOptions) (parts : ℕ) (f : PartFault) (j : Option Judged) → parts ≡ parts_for o → (f ≡ part_fault.NoMemory) ⊎ (refusal g parts o.spread.how ≡ Some f) → IsSaid (is_part_memory f) j (undivided_by f) → IsRefusal (plan.Run graph o) g accepted j

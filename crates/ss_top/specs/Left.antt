@@ -1,4 +1,5 @@
--- What a run in parts leaves beside its output: its workers, where its last window left them.
+-- What is so after a run beside its output: packets were once and in order in each of its states, the statistics that it leaves tell so,
+-- and a run in parts leaves its workers where its last window left them.
 use Rattle.std.specs.Prelude.{ℕ, ◌≤◌, List, Option, Some, None, Result, Ok, Err}
 use Rattle.std.specs.FinMap.{get}
 use Rattle.ss_edge.specs.Edge.{Contents}
@@ -8,12 +9,15 @@ use Rattle.ss_cmd.specs.declared.Usage.{Usage}
 use Rattle.ss_cmd.specs.Grammar.{plan_by}
 use Rattle.ss_graph.specs.declared.graph.Graph.{Graph}
 use Rattle.ss_graph.specs.Judge.{graph_of}
+use Rattle.ss_library.specs.Make.{model_of}
+use Rattle.ss_library.specs.Order.{PacketsStayInOrder}
 use Rattle.ss_part.specs.Assigned.{assigned}
 use Rattle.ss_run.specs.declared.RunSpec.{RunSpec}
 use Rattle.ss_worker.specs.Place.{Place, AllStandAt}
 use Rattle.ss_top.specs.Answer.{graph_name}
 use Rattle.ss_top.specs.Report.{Has, run_of}
 use Rattle.ss_top.specs.Spreading.{parts_of}
+use Rattle.ss_top.specs.Tells.{StatisticsTellOrder}
 
 -- where a worker stands
 abbrev pub Working : Type 0
@@ -25,11 +29,13 @@ pub record AreWorkers (r : RunSpec) (workers : List Working) : Type 0 where
   pub has : Has r windows
   pub stand : AllStandAt r windows workers
 
--- what has to be left of the run of an accepted graph
+-- what has to be so after the run of an accepted graph
 abbrev pub LeavesAccepted : Plan → Graph → List Working → Type 0
 LeavesAccepted (plan.Run graph options) g workers =
-    2 ≤ parts_of options.spread g
-    → AreWorkers (run_of g options.stop_at (parts_of options.spread g) (assigned g (parts_of options.spread g) options.spread.how)) workers
+    PacketsStayInOrder g (model_of g)
+    × StatisticsTellOrder g options.stop_at
+    × (2 ≤ parts_of options.spread g
+    → AreWorkers (run_of g options.stop_at (parts_of options.spread g) (assigned g (parts_of options.spread g) options.spread.how)) workers)
 LeavesAccepted (plan.Check graph) g workers = Unit {0}
 LeavesAccepted (plan.Partition graph parts how) g workers = Unit {0}
 
@@ -41,6 +47,6 @@ abbrev pub LeavesPlan : Result Plan Usage → Contents → List Working → Type
 LeavesPlan (Err u) held workers = Unit {0}
 LeavesPlan (Ok p) held workers = LeavesEntry p (get held (graph_name p)) workers
 
--- what a whole call with these words has to leave, where the shelf holds these entries
+-- what has to be so after a whole call with these words, where the shelf holds these entries
 unfoldable pub Leaves : List (List ℕ) → Contents → List Working → Type 0
 Leaves words held workers = LeavesPlan (plan_by words) held workers

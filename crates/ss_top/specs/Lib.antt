@@ -8,5 +8,6 @@ pub mod Simulate
 pub mod Writing
 pub mod Spreading
 pub mod Report
+pub mod Tells
 pub mod Left
 pub mod Dividing

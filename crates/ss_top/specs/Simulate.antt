@@ -5,7 +5,6 @@ use Rattle.ss_graph.specs.declared.graph.Graph.{Graph}
 use Rattle.ss_graph.specs.declared.fault.GraphFault.{GraphFault}
 use Rattle.ss_graph.specs.Faults.{is_memory}
 use Rattle.ss_network.specs.declared.fault.MakeFault.{MakeFault}
-use Rattle.ss_library.specs.Make.{make_checks, model_of}
 use Rattle.ss_network.specs.Faults as making
 use Rattle.ss_top.specs.Message.{message_text, fault_line, limit_line}
 use Rattle.ss_top.specs.Answer.{line, whole, graph_name, refused_as, AnswersJudged, sheets as sheets_of, undivided_by, division, stats_text}

@@ -27,7 +27,7 @@ where
     requires workers { AllStandAt run.now 0 workers.old.items }
     requires open { D.limit lead.old ≡ None }
     requires unrefused { none_refused (D.seen lead.old) ≡ None }
-    ensures answers { Answers E.kind E.meaning run.now result (D.seen lead.old) (D.seen lead.new) }
+    ensures answers { Answers E.kind E.saving E.meaning run.now result (D.seen lead.old) (D.seen lead.new) }
     ensures stand { IfOk result (λ e. AllStandAt run.now e.windows workers.new.items) }
 {
     run_joined(rt, alloc, workers, hosts, lead)

@@ -7,7 +7,7 @@ use ss_element::Line;
 use ss_join::{Cut, Lead, LeadFault};
 use std::alloc::{AllocError, Global};
 
-/// Keeps the lines that a run hands out, cut by cut.
+/// Keeps what a run hands out, cut by cut.
 #[derive(Drop)]
 pub struct Gatherer {
     alloc: Global,
@@ -26,20 +26,6 @@ impl Gatherer {
     }
 }
 
-fn copy_of(alloc: Global, lines: &[Line]) -> Result<Vec<Line>, AllocError>
-    ensures { IfOk result (λ v. v.items ≡ lines.now) }
-{
-    let mut copy = Vec::new(alloc);
-    for line in lines {
-        let text = line.text.copy(alloc)?;
-        copy.push(Line {
-            key: line.key,
-            text,
-        })?;
-    }
-    Ok(copy)
-}
-
 impl Lead for Gatherer {
     ghost use Rattle.std.specs.Prelude.{Option, Some, None};
     ghost use Rattle.ss_join.specs.Cutting.{Seen};
@@ -51,10 +37,10 @@ impl Lead for Gatherer {
     ghost limit = { λ g. None };
 
     fn cut(&mut self, cut: &Cut) -> Result<(), LeadFault> {
-        let Ok(lines) = copy_of(self.alloc, cut.lines.as_slice()) else {
+        let Ok(copy) = cut.copy(self.alloc) else {
             return Err(LeadFault::NoMemory);
         };
-        match self.cuts.push(Cut { lines }) {
+        match self.cuts.push(copy) {
             Ok(()) => Ok(()),
             Err(_) => Err(LeadFault::NoMemory),
         }

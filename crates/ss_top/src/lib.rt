@@ -208,6 +208,11 @@ fn carry_out<T: Threads + Sync, V: Shelf, K: Sink, R: Sink>(
 /// workers; after every other call what it holds is open. `--sync-report` puts how many windows there were and how
 /// many events went from each part to each other.
 ///
+/// After status `Whole` of a run packets were once and in order in each of its states: of each source, destination and
+/// virtual network, what was delivered and then what stands along the path, from the end, is what was injected. The
+/// statistics that are stored tell so: an endpoint's accumulator `out_of_order` has a 0 for each packet that the endpoint
+/// delivered in the run, and its accumulator `received` has the flits of each.
+///
 /// It waits for nobody and returns in any case. The statuses and lines are this project's own.
 pub fn sst_here<T: Threads + Sync, V: Shelf, K: Sink, R: Sink>(
     rt: &T,

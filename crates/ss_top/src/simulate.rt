@@ -9,6 +9,7 @@ ghost use Rattle.ss_library.specs.Kinds.{any_safe};
 ghost use Rattle.ss_cmd.specs.Grammar.{IsEarly};
 ghost use Rattle.ss_graph.specs.Checks.{first_fault};
 ghost use Rattle.ss_library.specs.Make.{make_checks, model_of};
+ghost use Rattle.ss_library.specs.Order.{PacketsStayInOrder};
 ghost use Rattle.ss_cmd.specs.declared.Plan.TheVariants as plan;
 ghost use Rattle.ss_part.specs.Assigned.{assigned};
 ghost use Rattle.ss_part.specs.Division.{AreBelow};
@@ -273,6 +274,8 @@ fn run_graph<T: Threads + Sync>(
     requires made { record { elements = model.elements.items; wires = model.wires } ≡ model_of graph }
     requires few { length model.elements.items < 2 ^ 32 }
     requires safe { any_safe model.wires 0 (opening model.elements.items) }
+    requires checked { first_fault (make_checks graph) ≡ None }
+    requires order { PacketsStayInOrder graph (model_of graph) }
     ensures { (name : List ℕ) → IsVerdict (plan.Run name options.now) graph accepted ran.new.workers.items result }
 {
     let parts = part_count(&options.spread, &graph);

@@ -346,6 +346,31 @@ fn puts_statistics(rt: HostRuntime) -> Result<(), Fail> {
     Ok(())
 }
 
+/// A router with four generators, each of which sends 10 packets of 8 flits to its complement.
+const GENERATORS: &str =
+    "{\"program_options\":{\"exit-period\":\"1us\"},\"components\":[{\"name\":\"rtr\",\"type\":\"merlin.hr_router\",\"params\":{\"id\":0,\"topology\":\"merlin.singlerouter\",\"topology.local_ports\":4,\"xbar_bw\":\"8GB/s\",\"num_vns\":2,\"flit_size\":\"8B\",\"link_bw\":\"8GB/s\",\"input_buf_size\":\"1KiB\",\"output_buf_size\":\"1KiB\"}},{\"name\":\"gen0\",\"type\":\"merlin.trafficgen\",\"params\":{\"id\":0,\"num_peers\":4,\"pattern\":\"complement\",\"packets\":10,\"packet_size\":\"64B\",\"num_vns\":2,\"flit_size\":\"8B\",\"link_bw\":\"8GB/s\",\"input_buf_size\":\"1KiB\",\"output_buf_size\":\"1KiB\"},\"statistics\":[{\"name\":\"received\"},{\"name\":\"out_of_order\"}]},{\"name\":\"gen1\",\"type\":\"merlin.trafficgen\",\"params\":{\"id\":1,\"num_peers\":4,\"pattern\":\"complement\",\"packets\":10,\"packet_size\":\"64B\",\"num_vns\":2,\"flit_size\":\"8B\",\"link_bw\":\"8GB/s\",\"input_buf_size\":\"1KiB\",\"output_buf_size\":\"1KiB\"},\"statistics\":[{\"name\":\"received\"},{\"name\":\"out_of_order\"}]},{\"name\":\"gen2\",\"type\":\"merlin.trafficgen\",\"params\":{\"id\":2,\"num_peers\":4,\"pattern\":\"complement\",\"packets\":10,\"packet_size\":\"64B\",\"num_vns\":2,\"flit_size\":\"8B\",\"link_bw\":\"8GB/s\",\"input_buf_size\":\"1KiB\",\"output_buf_size\":\"1KiB\"},\"statistics\":[{\"name\":\"received\"},{\"name\":\"out_of_order\"}]},{\"name\":\"gen3\",\"type\":\"merlin.trafficgen\",\"params\":{\"id\":3,\"num_peers\":4,\"pattern\":\"complement\",\"packets\":10,\"packet_size\":\"64B\",\"num_vns\":2,\"flit_size\":\"8B\",\"link_bw\":\"8GB/s\",\"input_buf_size\":\"1KiB\",\"output_buf_size\":\"1KiB\"},\"statistics\":[{\"name\":\"received\"},{\"name\":\"out_of_order\"}]}],\"links\":[{\"name\":\"l0\",\"left\":{\"component\":\"gen0\",\"port\":\"rtr\",\"latency\":\"10ns\"},\"right\":{\"component\":\"rtr\",\"port\":\"port0\",\"latency\":\"10ns\"}},{\"name\":\"l1\",\"left\":{\"component\":\"gen1\",\"port\":\"rtr\",\"latency\":\"10ns\"},\"right\":{\"component\":\"rtr\",\"port\":\"port1\",\"latency\":\"10ns\"}},{\"name\":\"l2\",\"left\":{\"component\":\"gen2\",\"port\":\"rtr\",\"latency\":\"10ns\"},\"right\":{\"component\":\"rtr\",\"port\":\"port2\",\"latency\":\"10ns\"}},{\"name\":\"l3\",\"left\":{\"component\":\"gen3\",\"port\":\"rtr\",\"latency\":\"10ns\"},\"right\":{\"component\":\"rtr\",\"port\":\"port3\",\"latency\":\"10ns\"}}]}";
+
+const GENERATED: &str =
+    "component,statistic,field,value\ngen0,received,count,10\ngen0,received,sum,80\ngen0,received,sumsq,640\ngen0,received,min,8\ngen0,received,max,8\ngen0,out_of_order,count,10\ngen0,out_of_order,sum,0\ngen0,out_of_order,sumsq,0\ngen0,out_of_order,min,0\ngen0,out_of_order,max,0\ngen1,received,count,10\ngen1,received,sum,80\ngen1,received,sumsq,640\ngen1,received,min,8\ngen1,received,max,8\ngen1,out_of_order,count,10\ngen1,out_of_order,sum,0\ngen1,out_of_order,sumsq,0\ngen1,out_of_order,min,0\ngen1,out_of_order,max,0\ngen2,received,count,10\ngen2,received,sum,80\ngen2,received,sumsq,640\ngen2,received,min,8\ngen2,received,max,8\ngen2,out_of_order,count,10\ngen2,out_of_order,sum,0\ngen2,out_of_order,sumsq,0\ngen2,out_of_order,min,0\ngen2,out_of_order,max,0\ngen3,received,count,10\ngen3,received,sum,80\ngen3,received,sumsq,640\ngen3,received,min,8\ngen3,received,max,8\ngen3,out_of_order,count,10\ngen3,out_of_order,sum,0\ngen3,out_of_order,sumsq,0\ngen3,out_of_order,min,0\ngen3,out_of_order,max,0\n";
+
+#[test]
+fn generators_reach_their_complements(rt: HostRuntime) -> Result<(), Fail> {
+    let alloc = rt.alloc();
+    let out = "Simulation is complete, simulated time: 1000000 ps\n";
+    for line in [
+        "run g1.json --stats=s.csv",
+        "run g1.json --parts=2 --stats=s.csv",
+        "run g1.json --threads=3 --stats=s.csv",
+    ] {
+        let case = case_of(line, GENERATORS, Status::Whole, out, "");
+        let mut shelf = shelf_with(alloc, GENERATORS, Vec::new(alloc))?;
+        let _ran = check_over(&rt, alloc, &case, &mut shelf, Vec::new(alloc))?;
+        let text = shelf.entry("s.csv").ok_or("no entry")?;
+        assert_eq!(rt; text, GENERATED.as_bytes());
+    }
+    Ok(())
+}
+
 #[test]
 fn runs_clocks(rt: HostRuntime) -> Result<(), Fail> {
     let alloc = rt.alloc();

@@ -16,7 +16,7 @@ run_joined-requires g c =
 pub returns-clause-answers : goal.returns-clause-answers
 returns-clause-answers g c =
     let named : run_named c.args.workers.now.items ≡ c.args.run.now = run_is c.args.run.now 0 c.args.workers.now.items c.requires.workers c.requires.fits.some in
-    subst (λ (r : RunSpec). Answers g.E.Element.kind g.E.Simulated.meaning r c.run_joined.result (g.D.Lead.seen c.args.lead.now) (g.D.Lead.seen c.run_joined.new.lead)) named c.run_joined.ensures.answers
+    subst (λ (r : RunSpec). Answers g.E.Element.kind g.E.Element.saving g.E.Simulated.meaning r c.run_joined.result (g.D.Lead.seen c.args.lead.now) (g.D.Lead.seen c.run_joined.new.lead)) named c.run_joined.ensures.answers
 
 pub returns-clause-stand : goal.returns-clause-stand
 returns-clause-stand g c =

@@ -5,6 +5,7 @@ use Rattle.ss_library.specs.Make.{make_checks}
 use Rattle.ss_top.specs.Judge.{judged_made}
 use Rattle.ss_top.specs.Simulate.{IsVerdict}
 use Rattle.ss_library.specs.Make.{Made, wiring_of, members_of}
+use Rattle.ss_library.specs.Order.{PacketsStayInOrder}
 use Rattle.ss_library.proofs.Begun.{begun_count}
 use Rattle.ss_top.proofs.Simulating.{graph_ran}
 use Rattle.ss_top.proofs.simulate.answer_graph.Goals as goal
@@ -15,6 +16,10 @@ run_graph-requires-clause-few g c =
     let graph = c.args.graph in
     let same : length c.in-Ok.model.elements.items ≡ length graph.components = ap (λ (m : Made). length m.elements) c.in-Ok.ensures.judged.1 ∙ sym (begun_count (wiring_of graph) (members_of graph) 0 graph.components) in
     omega (arith, same, c.requires.fit.few_components)
+
+-- what was made keeps packets in order
+pub run_graph-requires-clause-order : goal.run_graph-requires-clause-order
+run_graph-requires-clause-order g c = λ κs live. subst (PacketsStayInOrder c.args.graph) c.in-Ok.ensures.judged.1 c.in-Ok.ensures.order
 
 pub returns-in-Run : goal.returns-in-Run
 returns-in-Run g c =
