@@ -1,5 +1,5 @@
 -- Which checkpoints of a run stand in which cuts.
-use Rattle.std.proofs.Common.{◌≡◌, ℕ, zero, suc, ◌+◌, ◌^◌, ◌<◌, ◌≤◌, ◌⊎◌, inl, inr, List, [], ◌∷◌, ◌++◌, length, map, Option, Some, None, refl, sym, ap, ◌∙◌, subst, arith, append-nil, append_assoc}
+use Rattle.std.proofs.Common.{◌≡◌, ℕ, zero, suc, ◌+◌, ◌^◌, ◌<◌, ◌≤◌, ◌⊎◌, inl, inr, List, [], ◌∷◌, ◌++◌, length, map, max, Option, Some, None, refl, sym, ap, ◌∙◌, subst, arith, append-nil, append_assoc}
 use Rattle.std.specs.Prelude.{slice_get, Result, Ok, Err, IfOk}
 use Rattle.std.specs.List.{All, Contains}
 use Rattle.std.proofs.lemmas.List.Elements.{All-head, All-contains, All-weaker, Contains-push, Contains-append_left}
@@ -17,7 +17,7 @@ use Rattle.ss_element.specs.Kind.{Kind}
 use Rattle.ss_element.specs.Saving.{Saving}
 use Rattle.ss_element.specs.World as element
 use Rattle.ss_window.specs.Cuts.MayEnd.{saved}
-use Rattle.ss_theory.specs.Queue.{range_from}
+use Rattle.ss_theory.specs.Queue.{range_from, top}
 use Rattle.ss_theory.specs.World.{World, Global, HasBelow, NoneBelow, last_for, projection}
 use Rattle.ss_theory.specs.Rounds.{Moment, first_time, end_at, CuttingLaws}
 use Rattle.ss_theory.proofs.Ranges.{range_order}
@@ -27,6 +27,7 @@ use Rattle.ss_parts.specs.Division.{all_idle}
 use Rattle.ss_parts.proofs.Bridge.{until_same, after_same, lines_same}
 use Rattle.ss_parts.proofs.Windows as windows
 use Rattle.ss_piece.specs.Pieces.{Slip, piece_slip}
+use Rattle.ss_compose.specs.Compose.{last_of}
 use Rattle.ss_cut.specs.Cut.{AreAll, Makes}
 use Rattle.ss_cut.specs.Cut.{AreLines as AreLinesOf}
 use Rattle.ss_cut.proofs.Cuts.{pieces_make}
@@ -38,8 +39,9 @@ use Rattle.ss_worker.specs.Saves.{IsBy, AreFirst, IsBehind, IsSaveTime, IsFirstP
 use Rattle.ss_worker.proofs.Course as course
 use Rattle.ss_join.specs.Cutting.{Given, lines_of}
 use Rattle.ss_join.specs.Joined.{IsOutcome}
-use Rattle.ss_join.specs.Checkpoints.{IsAtTime, IsCheckpoint, StandsIn, AreEarlier, IsCutOf, AreCuts, IsWindowCut, AreFirstPieces, IsFirstCut}
-use Rattle.ss_join.proofs.Listed.{Lefts, IsBefore, until_end, keeps, behind_back}
+use Rattle.ss_join.specs.Checkpoints.{IsAtTime, IsCheckpoint, StandsIn, AreEarlier, AreLater, IsCutOf, AreCuts, IsWindowCut, AreFirstPieces, IsFirstCut}
+use Rattle.ss_join.specs.Between.{IsGreatestLast}
+use Rattle.ss_join.proofs.Listed.{Lefts, IsBefore, until_end, keeps, behind_back, last_then}
 
 -- ---- lists
 
@@ -113,14 +115,40 @@ pub one_ok : {A E : Type 0} (res : Result A E) (P T : A → Type 0) → ((x : A)
 one_ok (Ok x) P T h p = h x p
 one_ok (Err e) P T h p = tt
 
+-- ---- the greatest of the pieces' times
+
+last_of_from : (f : ℕ → Slip) (k n : ℕ) → top (k + n) (λ p. (f p).last) ≡ max (top k (λ p. (f p).last)) (last_of (map f (range_from k n)))
+last_of_from f k zero = let e : k + 0 ≡ k = omega arith in ap (λ j. top j (λ p. (f p).last)) e ∙ (let z : top k (λ p. (f p).last) ≡ max (top k (λ p. (f p).last)) 0 = omega arith in z)
+last_of_from f k (suc n) =
+    let e : k + suc n ≡ k + 1 + n = omega arith in
+    let more : top (k + 1) (λ p. (f p).last) ≡ max (top k (λ p. (f p).last)) (f k).last = ap (λ j. top j (λ p. (f p).last)) {x = k + 1} {y = suc k} (omega arith) in
+    let rest = last_of_from f (k + 1) n in
+    ap (λ j. top j (λ p. (f p).last)) e ∙ rest ∙ ap (λ a. max a (last_of (map f (range_from (k + 1) n)))) more
+    ∙ max_apart (top k (λ p. (f p).last)) (f k).last (last_of (map f (range_from (k + 1) n)))
+  where
+    max_apart : (a b c : ℕ) → max (max a b) c ≡ max a (max b c)
+    max_apart a b c = omega arith
+
+last_of_all : (f : ℕ → Slip) (n : ℕ) → last_of (map f (range_from 0 n)) ≡ top n (λ p. (f p).last)
+last_of_all f n =
+    let a = last_of_from f 0 n in
+    let e : top (0 + n) (λ p. (f p).last) ≡ top n (λ p. (f p).last) = ap (λ j. top j (λ p. (f p).last)) {x = 0 + n} {y = n} (omega arith) in
+    omega (arith, a, e)
+
 -- ---- cuts, one more
 
+later_more : (ts : List ℕ) (cs : List Given) (c : Given) → AreLater ts cs → ((t u : ℕ) → Contains ts t → Contains c.saves u → t < u) → AreLater ts (cs ++ c ∷ [])
+later_more ts [] c h new = (new, tt)
+later_more ts (d ∷ cs) c h new = (h.0, later_more ts cs c h.1 new)
+
 module _ {S L : Type 0} (kind : Kind S L) (saving : Saving S L) (m : Meaning S L) (r : RunSpec) (o : Outcome) where
-  pub cuts_more : (before : List Line) (cs : List Given) (c : Given) → AreCuts kind saving m r o before cs → IsCutOf kind saving m r o (before ++ lines_of cs) c → AreCuts kind saving m r o before (cs ++ c ∷ [])
-  cuts_more before [] c h is = (subst (λ ls. IsCutOf kind saving m r o ls c) (append-nil before) is, tt)
-  cuts_more before (d ∷ cs) c h is = (
+  -- its times lie behind those of all cuts before
+  pub cuts_more : (before : List Line) (cs : List Given) (c : Given) → AreCuts kind saving m r o before cs → ((t : ℕ) → Contains c.saves t → AreEarlier cs t) → IsCutOf kind saving m r o (before ++ lines_of cs) c → AreCuts kind saving m r o before (cs ++ c ∷ [])
+  cuts_more before [] c h late is = (subst (λ ls. IsCutOf kind saving m r o ls c) (append-nil before) is, tt, tt)
+  cuts_more before (d ∷ cs) c h late is = (
     h.0,
-    cuts_more (before ++ d.lines) cs c h.1
+    later_more d.saves cs c h.1 (λ t u i j. All-contains (λ x. x < u) d.saves t (late u j).0 i),
+    cuts_more (before ++ d.lines) cs c h.2 (λ t i. (late t i).1)
         (subst (λ ls. IsCutOf kind saving m r o ls c) (ap (λ l. before ++ l) (flat_map-append (λ (x : Given). x.lines) (d ∷ []) cs ∙ ap (λ l. l ++ lines_of cs) (append-nil d.lines)) ∙ sym (append_assoc before d.lines (lines_of cs))) is),
   )
 
@@ -174,12 +202,20 @@ module _ {S L : Type 0} (kind : Kind S L) (Safe : Wiring → ℕ → State S L �
   left_at : (k : ℕ) (h : Moment (List S) (Event L)) → IsLeft kind m r k → IsAt kind m r k h → HasBelow V (known kind m r h) h.whole.pending
   left_at k h left oh = subst (λ (x : Moment (List S) (Event L)). HasBelow V (known kind m r x) x.whole.pending) (course.one_moment kind Safe rests m laws r f k left.moment h left.opened oh) left.some
 
+  -- what is behind a window is later than what came before it
+  pub later_behind : (k t : ℕ) (o : Outcome) → IsOutcome kind m r o → IsLeft kind m r k → IsBehind kind m r (suc k) t → Later kind m r k t
+  later_behind k t o ran left late = record {
+    behind = behind_back kind Safe rests m laws r f o ran k t late;
+    past = λ x ox. past_end x.since x.whole.pending t (left_at k x left ox) (late x ox);
+  }
+
   -- what is later than a window is later than the one before
   pub later_back : (k t : ℕ) (o : Outcome) → IsOutcome kind m r o → IsLeft kind m r k → Later kind m r (suc k) t → Later kind m r k t
-  later_back k t o ran left l = record {
-    behind = behind_back kind Safe rests m laws r f o ran k t l.behind;
-    past = λ x ox. past_end x.since x.whole.pending t (left_at k x left ox) (l.behind x ox);
-  }
+  later_back k t o ran left l = later_behind k t o ran left l.behind
+
+  -- the times of the cut behind a window are later than what came before it
+  pub saves_later : (k : ℕ) (c : Given) (o : Outcome) → IsOutcome kind m r o → IsLeft kind m r k → AreFirst (IsSaveTime kind m r (suc k)) 1025 c.saves → (t : ℕ) → Contains c.saves t → Later kind m r k t
+  saves_later k c o ran left saves t i = later_behind k t o ran left (All-contains (IsSaveTime kind m r (suc k)) c.saves t saves.each i).behind
 
   -- checkpoint times that are later than what comes first are later than the window
   pub goes_by : (k t : ℕ) (o : Outcome) → IsCheckpoint kind m r o t → IsLeft kind m r k → Later kind m r k t → IsBehind kind m r (suc k) t
@@ -207,26 +243,60 @@ module _ {S L : Type 0} (kind : Kind S L) (Safe : Wiring → ℕ → State S L �
   all_parts = record { once = (range_order r.partition.parts).0; cover = λ p lt. (range_order r.partition.parts).1 p ∙ lt-ltb p r.partition.parts lt }
 
   module _ (saving : Saving S L) where
-    makes_window : (k t : ℕ) (ps : List Slip) (y : IsSaveTime kind m r (suc k) t) → ArePieces kind saving m r k ps → AreLinesOf r.graph (wires_of m r) → Makes saving r.graph ps y.moment.whole
-    makes_window k t ps y are lines =
+    -- of a part behind window k
+    piece_behind : ℕ → ℕ → Slip
+    piece_behind k p = piece_slip saving (course.end_of kind Safe rests m laws r f p k).0.state ((course.end_of kind Safe rests m laws r f p k).0.pending ++ (course.end_of kind Safe rests m laws r f p k).0.out) (has_last p (suc k)).0
+
+    pieces_behind : (k t : ℕ) (ps : List Slip) → IsSaveTime kind m r (suc k) t → ArePieces kind saving m r k ps → ps ≡ map (piece_behind k) (range_from 0 r.partition.parts)
+    unfolding piece_behind
+    pieces_behind k t ps y are =
         let all = are.some t y in
+        listed (piece_behind k) ps 0 r.partition.parts all.count
+        (λ i lt. all.each i lt (course.end_of kind Safe rests m laws r f i k).0 (has_last i (suc k)).0 (course.end_of kind Safe rests m laws r f i k).1 (has_last i (suc k)).1 ∙ ap (λ j. Some (piece_behind k j)) (let z : i ≡ 0 + i = omega arith in z))
+
+    makes_window : (k t : ℕ) (ps : List Slip) (y : IsSaveTime kind m r (suc k) t) → ArePieces kind saving m r k ps → AreLinesOf r.graph (wires_of m r) → Makes saving r.graph ps y.moment.whole
+    unfolding piece_behind
+    makes_window k t ps y are lines =
         let ends : ℕ → PartState kind m r = λ p. (course.end_of kind Safe rests m laws r f p k).0 in
         let lasts : ℕ → ℕ = λ p. (has_last p (suc k)).0 in
-        let piece : ℕ → Slip = λ p. piece_slip saving (ends p).state ((ends p).pending ++ (ends p).out) (lasts p) in
-        let is : ps ≡ map piece (range_from 0 r.partition.parts) = listed piece ps 0 r.partition.parts all.count (λ i lt. all.each i lt (ends i) (lasts i) (course.end_of kind Safe rests m laws r f i k).1 (has_last i (suc k)).1 ∙ ap (λ j. Some (piece j)) (let z : i ≡ 0 + i = omega arith in z)) in
         let o = y.opened in
-        subst (λ l. Makes saving r.graph l y.moment.whole) (sym is)
+        subst (λ l. Makes saving r.graph l y.moment.whole) (sym (pieces_behind k t ps y are))
         ((pieces_make kind Safe rests saving (wires_of m r) (division r) (start_of m r) (course.may kind Safe rests m laws r f)).ended r.graph k ends lasts (range_from 0 r.partition.parts) o.0 y.moment lines all_parts o.1 o.2 (λ p q. (course.end_of kind Safe rests m laws r f p k).1))
 
+    lasts_window : (k t : ℕ) (ps : List Slip) → IsSaveTime kind m r (suc k) t → ArePieces kind saving m r k ps → IsGreatestLast kind m r (suc k) r.partition.parts (last_of ps)
+    unfolding piece_behind
+    lasts_window k t ps y are = record {
+      lasts = λ p. (has_last p (suc k)).0;
+      are = λ p lt. (has_last p (suc k)).1;
+      is = ap last_of (pieces_behind k t ps y are) ∙ last_of_all (piece_behind k) r.partition.parts;
+    }
+
+    -- of a part at the beginning
+    piece_first : ℕ → Slip
+    piece_first p = piece_slip saving (projection V G p).state ((projection V G p).pending ++ (projection V G p).out) (start_of m r).last
+
+    pieces_first : (ps : List Slip) → AreFirstPieces kind saving m r ps → ps ≡ map piece_first (range_from 0 r.partition.parts)
+    unfolding piece_first
+    pieces_first ps all =
+        let first = (course.alone kind Safe rests m laws r f).first in
+        listed piece_first ps 0 r.partition.parts all.count (λ i lt. all.each i lt (projection V G i) (first i) ∙ ap (λ j. Some (piece_first j)) (let z : i ≡ 0 + i = omega arith in z))
+
     makes_first : (t : ℕ) (ps : List Slip) (y : IsSaveTime kind m r 0 t) → AreFirstPieces kind saving m r ps → AreLinesOf r.graph (wires_of m r) → Makes saving r.graph ps y.moment.whole
+    unfolding piece_first
     makes_first t ps y all lines =
         let parts : ℕ → PartState kind m r = λ p. projection V G p in
         let lasts : ℕ → ℕ = λ p. (start_of m r).last in
-        let piece : ℕ → Slip = λ p. piece_slip saving (parts p).state ((parts p).pending ++ (parts p).out) (lasts p) in
         let first = (course.alone kind Safe rests m laws r f).first in
-        let is : ps ≡ map piece (range_from 0 r.partition.parts) = listed piece ps 0 r.partition.parts all.count (λ i lt. all.each i lt (parts i) (first i) ∙ ap (λ j. Some (piece j)) (let z : i ≡ 0 + i = omega arith in z)) in
-        subst (λ l. Makes saving r.graph l y.moment.whole) (sym is)
+        subst (λ l. Makes saving r.graph l y.moment.whole) (sym (pieces_first ps all))
         ((pieces_make kind Safe rests saving (wires_of m r) (division r) (start_of m r) (course.may kind Safe rests m laws r f)).begun r.graph 0 parts lasts (range_from 0 r.partition.parts) y.moment lines all_parts y.opened (λ p q. first p))
+
+    lasts_first : (ps : List Slip) → AreFirstPieces kind saving m r ps → IsGreatestLast kind m r 0 r.partition.parts (last_of ps)
+    unfolding piece_first
+    lasts_first ps all = record {
+      lasts = λ p. (start_of m r).last;
+      are = λ p lt. refl;
+      is = ap last_of (pieces_first ps all) ∙ last_of_all piece_first r.partition.parts;
+    }
 
   -- ---- of an outcome, before window k
 
@@ -257,6 +327,9 @@ module _ {S L : Type 0} (kind : Kind S L) (Safe : Wiring → ℕ → State S L �
 
     lines_are : (t n : ℕ) → IsSaveTime kind m r k t → IsAtTime kind m r t n → ls ≡ run.lines kind.handled (wires_of m r) n (start_of m r)
     lines_are t n y u = b.printed ∙ sym (lines_same kind.handled (wires_of m r) (division r).part_of b.steps (start_of m r)) ∙ ap (λ j. run.lines kind.handled (wires_of m r) j (start_of m r)) (sym (steps_are t n y u))
+
+    last_at : (t n greatest : ℕ) → IsSaveTime kind m r k t → IsAtTime kind m r t n → IsGreatestLast kind m r k r.partition.parts greatest → greatest ≡ (run.after kind.handled (wires_of m r) n (start_of m r)).last
+    last_at t n greatest y u x = last_then kind Safe rests m laws r f o ran k n t greatest y.moment y.opened lefts x y.behind (none_from t y.moment.whole.pending y.by) u
 
     either : (q : ℕ) (xs : List (Event L)) → HasBelow V q xs ⊎ NoneBelow V q xs
     either q [] = inr tt
@@ -289,8 +362,9 @@ module _ {S L : Type 0} (kind : Kind S L) (Safe : Wiring → ℕ → State S L �
     }
 
     pub cut_then : (saving : Saving S L) (before : List Line) (c : Given) → before ++ c.lines ≡ ls → AreFirst (IsSaveTime kind m r k) 1025 c.saves →
-        ((t : ℕ) (y : IsSaveTime kind m r k t) → AreLinesOf r.graph (wires_of m r) → Makes saving r.graph c.pieces y.moment.whole) → IsCutOf kind saving m r o before c
-    cut_then saving before c e saves makes = record {
+        ((t : ℕ) (y : IsSaveTime kind m r k t) → AreLinesOf r.graph (wires_of m r) → Makes saving r.graph c.pieces y.moment.whole) →
+        ((t : ℕ) → IsSaveTime kind m r k t → IsGreatestLast kind m r k r.partition.parts (last_of c.pieces)) → IsCutOf kind saving m r o before c
+    cut_then saving before c e saves makes greatest = record {
       ascending = saves.ascending;
       few = saves.few;
       asked = λ t i. checkpoint_then t (All-contains (IsSaveTime kind m r k) c.saves t saves.each i);
@@ -298,6 +372,9 @@ module _ {S L : Type 0} (kind : Kind S L) (Safe : Wiring → ℕ → State S L �
       pieces = λ t n i u lines.
           let y = All-contains (IsSaveTime kind m r k) c.saves t saves.each i in
           subst (Makes saving r.graph c.pieces) (whole_is t n y u) (makes t y lines);
+      last = λ t n i u.
+          let y = All-contains (IsSaveTime kind m r k) c.saves t saves.each i in
+          last_at t n (last_of c.pieces) y u (greatest t y);
     }
 
     save_time : (t : ℕ) → IsCheckpoint kind m r o t → IsBehind kind m r k t → IsBy (first_time V b.moment.whole.pending) t → IsSaveTime kind m r k t
@@ -355,3 +432,9 @@ module _ {S L : Type 0} (kind : Kind S L) (Safe : Wiring → ℕ → State S L �
 
   pub opening_makes : (saving : Saving S L) (c : Given) → IsFirstCut kind saving m r c → (t : ℕ) (y : IsSaveTime kind m r 0 t) → AreLinesOf r.graph (wires_of m r) → Makes saving r.graph c.pieces y.moment.whole
   opening_makes saving c w t y lines = makes_first saving t c.pieces y w.pieces lines
+
+  pub window_lasts : (saving : Saving S L) (k : ℕ) (c : Given) → IsWindowCut kind saving m r k c → (t : ℕ) → IsSaveTime kind m r (suc k) t → IsGreatestLast kind m r (suc k) r.partition.parts (last_of c.pieces)
+  window_lasts saving k c w t y = lasts_window saving k t c.pieces y w.pieces
+
+  pub opening_lasts : (saving : Saving S L) (c : Given) → IsFirstCut kind saving m r c → (t : ℕ) → IsSaveTime kind m r 0 t → IsGreatestLast kind m r 0 r.partition.parts (last_of c.pieces)
+  opening_lasts saving c w t y = lasts_first saving c.pieces w.pieces

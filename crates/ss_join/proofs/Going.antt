@@ -15,7 +15,7 @@ use Rattle.ss_join.specs.declared.lead.LeadFault.{LeadFault}
 use Rattle.ss_join.specs.declared.Ending.{Ending}
 use Rattle.ss_join.specs.Cutting.{Given, Seen, Told, lines_of, refused_cuts}
 use Rattle.ss_join.specs.Checkpoints.{IsCheckpoint, StandsIn, AreEarlier, AreCuts, IsWindowCut, IsFirstCut, IsOpening}
-use Rattle.ss_join.proofs.Checkpoints.{Later, cuts_more, earlier_more, stands_kept, later_back, goes_by, cut_then, stands_new, later_none, none_later, earlier_then, window_makes, opening_makes}
+use Rattle.ss_join.proofs.Checkpoints.{Later, cuts_more, earlier_more, stands_kept, later_back, saves_later, goes_by, cut_then, stands_new, later_none, none_later, earlier_then, window_makes, opening_makes, window_lasts, opening_lasts}
 use Rattle.ss_join.specs.Joined.{Saw, IsOutcome, Breaks, Begins, Ends, none_refused}
 use Rattle.ss_join.specs.Between.{point_of, AreWindowLines}
 use Rattle.ss_join.proofs.Outcomes.{has_outcome}
@@ -51,7 +51,7 @@ module _ {S L : Type 0} (kind : Kind S L) (Safe : Wiring → ℕ → State S L �
   module _ (saving : Saving S L) where
     first_cuts : (first : Option Given) → IsOpening kind saving m r first → (o : Outcome) → IsOutcome kind m r o → AreCuts kind saving m r o [] (refused_cuts first)
     first_cuts None none o ran = tt
-    first_cuts (Some c) is o ran = (cut_then kind Safe rests m laws r f o ran 0 [] (none_first o ran) no_lefts saving [] c is.lines is.saves (opening_makes kind Safe rests m laws r f saving c is), tt)
+    first_cuts (Some c) is o ran = (cut_then kind Safe rests m laws r f o ran 0 [] (none_first o ran) no_lefts saving [] c is.lines is.saves (opening_makes kind Safe rests m laws r f saving c is) (opening_lasts kind Safe rests m laws r f saving c is), tt, tt)
 
     first_stands : (first : Option Given) → IsOpening kind saving m r first → (o : Outcome) → IsOutcome kind m r o → (t : ℕ) → IsCheckpoint kind m r o t → StandsIn kind m r (refused_cuts first) t ⊎ Later kind m r 0 t
     first_stands None none o ran t cp = inr (later_none kind Safe rests m laws r f o ran 0 [] (none_first o ran) no_lefts t none cp tt)
@@ -129,8 +129,8 @@ module _ {S L : Type 0} (kind : Kind S L) (Safe : Wiring → ℕ → State S L �
 
     saves_then : (o : Outcome) → IsOutcome kind m r o → AreCuts kind saving m r o [] (g.cuts ++ c ∷ [])
     saves_then o ran =
-        cuts_more kind saving m r o [] g.cuts c (g.saves o ran)
-        (cut_then kind Safe rests m laws r f o ran (suc (point_of r ws).windows) (lines_of g.cuts ++ c.lines) (before_then o ran) lefts_then saving (lines_of g.cuts) c refl cut.saves (window_makes kind Safe rests m laws r f saving (point_of r ws).windows c cut))
+        cuts_more kind saving m r o [] g.cuts c (g.saves o ran) (λ t i. g.earlier t (saves_later kind Safe rests m laws r f (point_of r ws).windows c o ran left cut.saves t i))
+        (cut_then kind Safe rests m laws r f o ran (suc (point_of r ws).windows) (lines_of g.cuts ++ c.lines) (before_then o ran) lefts_then saving (lines_of g.cuts) c refl cut.saves (window_makes kind Safe rests m laws r f saving (point_of r ws).windows c cut) (window_lasts kind Safe rests m laws r f saving (point_of r ws).windows c cut))
 
     stands_then : (o : Outcome) → IsOutcome kind m r o → (t : ℕ) → IsCheckpoint kind m r o t → StandsIn kind m r (g.cuts ++ c ∷ []) t ⊎ Later kind m r (suc (point_of r ws).windows) t
     stands_then o ran t cp =

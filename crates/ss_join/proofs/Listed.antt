@@ -9,6 +9,7 @@ use Rattle.ss_model.specs.declared.Line.{Line}
 use Rattle.ss_model.specs.Order.{key_before}
 use Rattle.ss_model.specs.Wiring.{Wiring}
 use Rattle.ss_model.specs.Step.{State}
+use Rattle.ss_model.specs.Step as run
 use Rattle.ss_model.specs.End.{Outcome, ended}
 use Rattle.ss_model.proofs.Runs.{until_one}
 use Rattle.ss_element.specs.Kind.{Kind, behaviour}
@@ -277,9 +278,10 @@ module _ {S L : Type 0} (kind : Kind S L) (Safe : Wiring → ℕ → State S L �
 
   -- ---- the times of last events
 
-  pub record Lasts (h : Moment (List S) (Event L)) (z : ℕ → ℕ) : Type 0 where
+  pub record Lasts (k : ℕ) (h : Moment (List S) (Event L)) (z : ℕ → ℕ) : Type 0 where
     pub steps : ℕ
     pub below : AllBelow (view kind m r) o.bound steps (glob (start_of m r))
+    pub behind : (t : ℕ) → IsBehind kind m r k t → AllBelow (view kind m r) t steps (glob (start_of m r))
     pub whole : h.whole ≡ after (view kind m r) steps (glob (start_of m r))
     pub is : top r.partition.parts z ≡ last (view kind m r) steps (glob (start_of m r)) (start_of m r).last
     pub ready : Ready (view kind m r) (windows.SafeIn kind Safe rests (wires_of m r) (division r) (start_of m r) (course.may kind Safe rests m laws r f)) (top r.partition.parts z) h.whole.state h.whole.pending
@@ -289,13 +291,14 @@ module _ {S L : Type 0} (kind : Kind S L) (Safe : Wiring → ℕ → State S L �
     cases : (x y : ℕ) → (x < y) ⊎ (y ≤ x)
     cases x y = grind arith
 
-  lasts : (start_of m r).last ≤ r.cuts.origin → (k : ℕ) (h : Moment (List S) (Event L)) → IsAt kind m r k h → Lefts kind m r k → (z : ℕ → ℕ) → ((p : ℕ) → p < r.partition.parts → IsLast kind m r p k (z p)) → Lasts h z
+  lasts : (start_of m r).last ≤ r.cuts.origin → (k : ℕ) (h : Moment (List S) (Event L)) → IsAt kind m r k h → Lefts kind m r k → (z : ℕ → ℕ) → ((p : ℕ) → p < r.partition.parts → IsLast kind m r p k (z p)) → Lasts k h z
   lasts early zero h oh left z all =
       let t : top r.partition.parts z ≡ (start_of m r).last = top_of_one r.partition.parts (start_of m r).last z f.some all in
       let begun = windows.begins kind Safe rests (wires_of m r) (division r) (start_of m r) (course.may kind Safe rests m laws r f) in
       record {
         steps = 0;
         below = tt;
+        behind = λ q late. tt;
         whole = ap (λ (x : Moment (List S) (Event L)). x.whole) oh;
         is = t;
         ready = subst (λ (x : Moment (List S) (Event L)). Ready V SafeIn (top P z) x.whole.state x.whole.pending) (sym oh)
@@ -311,7 +314,7 @@ module _ {S L : Type 0} (kind : Kind S L) (Safe : Wiring → ℕ → State S L �
         let n : a.2 ≡ oh.2.steps = on.one_until V (window_end kind m r oh.0) a.2 oh.2.steps oh.0.whole u oh.2.until in
         (a.4, λ lt. (a.5, a.6 ∙ ap (λ (x : Moment (List S) (Event L)). last_for V p a.2 x.whole a.4) e ∙ ap (λ c. last_for V p c oh.0.whole a.4) n))
 
-    go : (y : ℕ → ℕ) → ((p : ℕ) → p < r.partition.parts → IsLast kind m r p k (y p) × (z p ≡ last_for (view kind m r) p oh.2.steps oh.0.whole (y p))) → Lasts oh.0 y → Lasts h z
+    go : (y : ℕ → ℕ) → ((p : ℕ) → p < r.partition.parts → IsLast kind m r p k (y p) × (z p ≡ last_for (view kind m r) p oh.2.steps oh.0.whole (y p))) → Lasts k oh.0 y → Lasts (suc k) h z
     go y fits i =
         let l = oh.2 in
         let x = oh.0 in
@@ -328,15 +331,26 @@ module _ {S L : Type 0} (kind : Kind S L) (Safe : Wiring → ℕ → State S L �
         record {
           steps = i.steps + l.steps;
           below = below_append V o.bound i.steps l.steps G i.below (subst (λ (q : Global (List S) (Event L)). AllBelow V o.bound l.steps q) i.whole (of_until V (window_end kind m r x) o.bound l.steps x.whole upto l.until));
+          behind = λ q late. below_append V q i.steps l.steps G (i.behind q (behind_back k q late)) (subst (λ (g : Global (List S) (Event L)). AllBelow V q l.steps g) i.whole (of_until V (window_end kind m r x) q l.steps x.whole (late x oh.1) l.until));
           whole = now ∙ ap (after V l.steps) i.whole ∙ sym (after_append V SafeIn (division r).look (2 ^ 62) the_laws i.steps l.steps G);
           is = t ∙ ap (last V l.steps x.whole) i.is ∙ ap (λ (q : Global (List S) (Event L)). last V l.steps q (last V i.steps G (start_of m r).last)) i.whole ∙ sym (last_append V i.steps l.steps G (start_of m r).last);
           ready = subst (λ (q : Global (List S) (Event L)). Ready V SafeIn (top P z) q.state q.pending) (sym now)
               (subst (λ n. Ready V SafeIn n (after V l.steps x.whole).state (after V l.steps x.whole).pending) (sym t) ready);
         }
 
+  start_early : (start_of m r).last ≤ r.cuts.origin
+  start_early = let opens = laws r.graph r.origin f.accepted in subst (λ t. (start_of m r).last ≤ t) (sym f.origin) opens.past
+
   pub last_is : (k : ℕ) → HasWindows kind m r k → (greatest : ℕ) → IsGreatestLast kind m r k r.partition.parts greatest → greatest ≡ (ended (behaviour kind) (wires_of m r) (start_of m r) o).last
   last_is k w greatest x =
-      let opens = laws r.graph r.origin f.accepted in
-      let early : (start_of m r).last ≤ r.cuts.origin = subst (λ t. (start_of m r).last ≤ t) (sym f.origin) opens.past in
-      let i = lasts early k w.last w.opened w.first x.lasts x.are in
+      let i = lasts start_early k w.last w.opened w.first x.lasts x.are in
       x.is ∙ i.is ∙ ap (λ n. last V n G (start_of m r).last) (all_steps k i.steps w.last w.opened i.below i.whole w) ∙ sym (last_same kind.handled (wires_of m r) (division r).part_of o.steps (start_of m r))
+
+  -- the same of a time between two windows: behind the window before, and with no event left before it
+  pub last_then : (k n t greatest : ℕ) (h : Moment (List S) (Event L)) → IsAt kind m r k h → Lefts kind m r k → IsGreatestLast kind m r k r.partition.parts greatest → IsBehind kind m r k t → NoneBelow (view kind m r) t h.whole.pending →
+      run.IsUntil kind.handled (wires_of m r) t n (start_of m r) → greatest ≡ (run.after kind.handled (wires_of m r) n (start_of m r)).last
+  last_then k n t greatest h oh left x late none u =
+      let i = lasts start_early k h oh left x.lasts x.are in
+      let at_end : NoneBelow V t (after V i.steps G).pending = subst (λ (g : Global (List S) (Event L)). NoneBelow V t g.pending) i.whole none in
+      let steps : i.steps ≡ n = until_one kind.handled (wires_of m r) t i.steps n (start_of m r) (until_same kind.handled (wires_of m r) (division r).part_of t i.steps (start_of m r) (until_end V t i.steps G (i.behind t late) at_end)) u in
+      x.is ∙ i.is ∙ ap (λ j. last V j G (start_of m r).last) steps ∙ sym (last_same kind.handled (wires_of m r) (division r).part_of n (start_of m r))

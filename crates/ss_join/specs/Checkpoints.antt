@@ -9,6 +9,7 @@ use Rattle.ss_element.specs.Saving.{Saving}
 use Rattle.ss_window.specs.Cuts.{IsSave}
 use Rattle.ss_parts.specs.Parts.{glob}
 use Rattle.ss_piece.specs.Pieces.{Slip}
+use Rattle.ss_compose.specs.Compose.{last_of}
 use Rattle.ss_cut.specs.Cut.{AreLines as AreLinesOf, Makes}
 use Rattle.ss_run.specs.declared.RunSpec.{RunSpec}
 use Rattle.ss_run.specs.Meaning.{Meaning}
@@ -21,6 +22,11 @@ use Rattle.ss_join.specs.Between.{AreWindowLines}
 abbrev pub AreEarlier : List Given → ℕ → Type 0
 AreEarlier [] t = Unit {0}
 AreEarlier (c ∷ cs) t = All (λ u. u < t) c.saves × AreEarlier cs t
+
+-- all times of cuts lie behind these times
+abbrev pub AreLater : List ℕ → List Given → Type 0
+AreLater ts [] = Unit {0}
+AreLater ts (c ∷ cs) = ((t u : ℕ) → Contains ts t → Contains c.saves u → t < u) × AreLater ts cs
 
 module _ {S L : Type 0} (kind : Kind S L) (m : Meaning S L) (r : RunSpec) where
   -- n steps of the one list are all that comes before a time, and no more
@@ -44,17 +50,19 @@ module _ {S L : Type 0} (kind : Kind S L) (m : Meaning S L) (r : RunSpec) where
 
 module _ {S L : Type 0} (kind : Kind S L) (saving : Saving S L) (m : Meaning S L) (r : RunSpec) where
   -- the times of a cut are checkpoints. With this cut, behind the lines of the cuts before, all lines before each of these times
-  -- were handed out, and no others; and its pieces make the state of the one list then
+  -- were handed out, and no others; and its pieces make the state of the one list then, with the time of its last event
   pub record IsCutOf (o : Outcome) (before : List Line) (c : Given) : Type 0 where
     pub ascending : IsAscending c.saves
     pub few : length c.saves ≤ 1025
     pub asked : (t : ℕ) → Contains c.saves t → IsCheckpoint kind m r o t
     pub lines : (t n : ℕ) → Contains c.saves t → IsAtTime kind m r t n → before ++ c.lines ≡ lines kind.handled (wires_of m r) n (start_of m r)
     pub pieces : (t n : ℕ) → Contains c.saves t → IsAtTime kind m r t n → AreLinesOf r.graph (wires_of m r) → Makes saving r.graph c.pieces (glob (after kind.handled (wires_of m r) n (start_of m r)))
+    pub last : (t n : ℕ) → Contains c.saves t → IsAtTime kind m r t n → last_of c.pieces ≡ (after kind.handled (wires_of m r) n (start_of m r)).last
 
+  -- one after another: the times of each lie behind those of the cuts before it
   abbrev pub AreCuts : Outcome → List Line → List Given → Type 0
   AreCuts o before [] = Unit {0}
-  AreCuts o before (c ∷ cs) = IsCutOf o before c × AreCuts o (before ++ c.lines) cs
+  AreCuts o before (c ∷ cs) = IsCutOf o before c × AreLater c.saves cs × AreCuts o (before ++ c.lines) cs
 
   -- ---- as they are made
 
