@@ -1,0 +1,4 @@
+pub mod Following
+pub mod Allowing
+pub mod Covering
+pub mod Printing
