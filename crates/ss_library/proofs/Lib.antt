@@ -9,6 +9,6 @@ pub mod Begun
 pub mod Opening
 pub mod Lifting
 pub mod Ordering
-pub mod Networks
+pub mod NetworksOf
 pub mod Ordered
 pub mod Judged

@@ -41,7 +41,7 @@ use Rattle.ss_library.proofs.Members.{get_map, all_can_run}
 use Rattle.ss_library.proofs.Begun.{IsBegun, begun_at, begun_count}
 use Rattle.ss_library.proofs.Opening.{tied, model_opens, made_is, network_is}
 use Rattle.ss_library.proofs.Ordering.{any_keeps_order, any_numbers, any_expects}
-use Rattle.ss_library.proofs.Networks.{IsFresh, fresh, IsPlaced, placed, IsIdle, idle}
+use Rattle.ss_library.proofs.NetworksOf.{IsFresh, fresh, IsPlaced, placed, IsIdle, idle}
 
 -- the first router is one of the members
 first_at : (ms : List Member) (f : RouterAsk) → first_router ms ≡ Some f → (i : ℕ) × (slice_get ms i ≡ Some (member.Router f))
