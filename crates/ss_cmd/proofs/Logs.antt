@@ -9,24 +9,25 @@ use Rattle.clap.proofs.WalkLemmas.{first_value-rows}
 use Rattle.clap.specs.declared.error.Error.{Error}
 use Rattle.clap.specs.declared.error.kind.ErrorKind.TheVariants as kind
 use Rattle.clap.specs.declared.parser.matches.ArgMatches.{ArgMatches}
-use Rattle.ss_cmd.specs.Grammar.{graph_in, plan_of_said, plan_of_words}
+use Rattle.ss_cmd.specs.Grammar.{argument_in, first, plan_of_said, plan_of_words, run_options_in, then_with}
 use Rattle.clap.specs.Kinds.{FailsBy}
 use Rattle.clap.specs.Faults.{fault_of, is_simple_and_free}
 use Rattle.clap.specs.Simple.{App, HasMatchesOf, built, is_simple}
-use Rattle.ss_cmd.specs.Reads.{Reads, Texts, app_for, graph_of, plan_of_values, value_in}
+use Rattle.ss_cmd.specs.Reads.{Reads, Texts, app_for, argument_id, plan_of_values, value_in}
 use Rattle.ss_cmd.specs.declared.Command.{Command}
 use Rattle.ss_cmd.specs.declared.Command.TheVariants as command
+use Rattle.ss_cmd.specs.declared.Plan.TheVariants as plan
 use Rattle.ss_cmd.specs.declared.Usage.TheVariants as usage
 use Rattle.ss_cmd.specs.Words.{Said, Read, Where, and_then, before, is_dashed, is_equals, free, value_of, behind, given, is_distinct, nothing, one_argument, one_option, read_word, said_from}
-use Rattle.ss_cmd.proofs.Walks.{Word, Log, Look, Found, Missing, ParsesTo, parses, judged, first_of-given, look, look_up, long_name, read-long-missing, read-long-name, read-long-value, read-short, some-lt, bytes_eq-true, dashed, flat, graph_id, judged_log, log_from, log_then, names_of, rows_of}
+use Rattle.ss_cmd.proofs.Walks.{Word, Log, Look, Found, Missing, ParsesTo, parses, judged, first_of-given, look, look_up, long_name, read-long-missing, read-long-name, read-long-value, read-short, some-lt, bytes_eq-true, dashed, flat, judged_log, log_from, log_then, names_of, rows_of, shape_of}
 
 abbrev pub options_in : Log → Log
 options_in [] = []
-options_in (p ∷ l) = cond (bytes_eq p.0 graph_id) (options_in l) (p ∷ options_in l)
+options_in (p ∷ l) = cond (bytes_eq p.0 argument_id) (options_in l) (p ∷ options_in l)
 
 abbrev pub arguments_in : Log → List Word
 arguments_in [] = []
-arguments_in (p ∷ l) = cond (bytes_eq p.0 graph_id) (p.1 ∷ arguments_in l) (arguments_in l)
+arguments_in (p ∷ l) = cond (bytes_eq p.0 argument_id) (p.1 ∷ arguments_in l) (arguments_in l)
 
 abbrev pub split : Log → Said
 split l = record { options = options_in l; arguments = arguments_in l }
@@ -46,25 +47,21 @@ split-more said l (inr (inr e)) = rw e.2 refl
 
 -- ---- what a log gives
 
-pub given-option : (l : Log) (q : Word) → bytes_eq graph_id q ≡ false → given (options_in l) q ≡ given l q
+pub given-option : (l : Log) (q : Word) → bytes_eq argument_id q ≡ false → given (options_in l) q ≡ given l q
 given-option [] q h = refl
-given-option (p ∷ l) q h = go (given-option l q h) (bytes_eq p.0 graph_id) refl
+given-option (p ∷ l) q h = go (given-option l q h) (bytes_eq p.0 argument_id) refl
   where
-    go : given (options_in l) q ≡ given l q → (b : Bool) → bytes_eq p.0 graph_id ≡ b → given (options_in (p ∷ l)) q ≡ given (p ∷ l) q
+    go : given (options_in l) q ≡ given l q → (b : Bool) → bytes_eq p.0 argument_id ≡ b → given (options_in (p ∷ l)) q ≡ given (p ∷ l) q
     go ih true e =
-        let other : bytes_eq p.0 q ≡ false = ap (λ w. bytes_eq w q) (bytes_eq-true p.0 graph_id e) ∙ h in
+        let other : bytes_eq p.0 q ≡ false = ap (λ w. bytes_eq w q) (bytes_eq-true p.0 argument_id e) ∙ h in
         rw (e, other) ih
     go ih false e = rw e (ap (λ o. cond (bytes_eq p.0 q) (Some p.1) o) ih)
 
-abbrev pub first : List Word → Option Word
-first [] = None
-first (w ∷ ws) = Some w
-
-pub given-argument : (l : Log) → first (arguments_in l) ≡ given l graph_id
+pub given-argument : (l : Log) → first (arguments_in l) ≡ given l argument_id
 given-argument [] = refl
-given-argument (p ∷ l) = go (given-argument l) (bytes_eq p.0 graph_id)
+given-argument (p ∷ l) = go (given-argument l) (bytes_eq p.0 argument_id)
   where
-    go : first (arguments_in l) ≡ given l graph_id → (b : Bool) → first (cond b (p.1 ∷ arguments_in l) (arguments_in l)) ≡ cond b (Some p.1) (given l graph_id)
+    go : first (arguments_in l) ≡ given l argument_id → (b : Bool) → first (cond b (p.1 ∷ arguments_in l) (arguments_in l)) ≡ cond b (Some p.1) (given l argument_id)
     go ih true = refl
     go ih false = ih
 
@@ -87,15 +84,15 @@ one-more d (x ∷ ws) w = sym (and-none d)
 
 pub distinct-few : (l : Log) → is_distinct l ≡ (is_distinct (options_in l) && few (arguments_in l))
 distinct-few [] = refl
-distinct-few (p ∷ l) = go (distinct-few l) (bytes_eq p.0 graph_id) refl
+distinct-few (p ∷ l) = go (distinct-few l) (bytes_eq p.0 argument_id) refl
   where
-    flip : bytes_eq p.0 graph_id ≡ false → bytes_eq graph_id p.0 ≡ false
-    flip e = grind (arith, bytes_eq-Decides graph_id p.0, bytes_eq-Decides p.0 graph_id, e)
+    flip : bytes_eq p.0 argument_id ≡ false → bytes_eq argument_id p.0 ≡ false
+    flip e = grind (arith, bytes_eq-Decides argument_id p.0, bytes_eq-Decides p.0 argument_id, e)
 
-    go : is_distinct l ≡ (is_distinct (options_in l) && few (arguments_in l)) → (b : Bool) → bytes_eq p.0 graph_id ≡ b
+    go : is_distinct l ≡ (is_distinct (options_in l) && few (arguments_in l)) → (b : Bool) → bytes_eq p.0 argument_id ≡ b
         → is_distinct (p ∷ l) ≡ (is_distinct (options_in (p ∷ l)) && few (arguments_in (p ∷ l)))
     go ih true e =
-        let same : is_some (given l p.0) ≡ is_some (first (arguments_in l)) = ap (λ w. is_some (given l w)) (bytes_eq-true p.0 graph_id e) ∙ ap is_some (sym (given-argument l)) in
+        let same : is_some (given l p.0) ≡ is_some (first (arguments_in l)) = ap (λ w. is_some (given l w)) (bytes_eq-true p.0 argument_id e) ∙ ap is_some (sym (given-argument l)) in
         (λ i. not (same i) && ih i) ∙ rw e (one-more (is_distinct (options_in l)) (arguments_in l) p.1)
     go ih false e =
         let same : is_some (given l p.0) ≡ is_some (given (options_in l) p.0) = ap is_some (sym (given-option l p.0 (flip e))) in
@@ -111,7 +108,7 @@ just-one d (w ∷ x ∷ ws) =
 
 pub judged-by : (l : Log) → judged_log l ≡ (if is_distinct (split l).options && length (split l).arguments == 1 then Some (rows_of l) else None)
 judged-by l =
-    let same : (is_distinct l && is_some (given l graph_id)) ≡ (is_distinct (options_in l) && length (arguments_in l) == 1) =
+    let same : (is_distinct l && is_some (given l argument_id)) ≡ (is_distinct (options_in l) && length (arguments_in l) == 1) =
     (λ i. distinct-few l i && is_some (sym (given-argument l) i)) ∙ just-one (is_distinct (options_in l)) (arguments_in l) in
     ap (λ b. cond b (Some (rows_of l)) None) same
 
@@ -168,15 +165,9 @@ said-log longs (word ∷ words) at a = go (λ next b. said-log longs words next 
 
 -- ---- the plan
 
-graph-is : (l : Log) → graph_in (arguments_in l) ≡ graph_of (given l graph_id)
-graph-is l = go (arguments_in l) ∙ ap graph_of (given-argument l)
-  where
-    go : (ws : List Word) → graph_in ws ≡ graph_of (first ws)
-    go [] = refl
-    go (w ∷ ws) = refl
-
-plan-is : (c : Command) (l : Log) → plan_of_said c (split l) ≡ plan_of_values c (given l)
-plan-is command.Run l =
+-- what the options in a log give is what the log gives, under the names of the options
+run-plan-is : (l : Log) → run_options_in (given (options_in l)) ≡ run_options_in (given l)
+run-plan-is l =
     rw (
       given-option l (codes "--stop-at") refl,
       given-option l (codes "--threads") refl,
@@ -185,10 +176,17 @@ plan-is command.Run l =
       given-option l (codes "--exchange") refl,
       given-option l (codes "--stats") refl,
       given-option l (codes "--sync-report") refl,
-      graph-is l,
+      given-option l (codes "--checkpoint-at") refl,
+      given-option l (codes "--checkpoint-period") refl,
+      given-option l (codes "--checkpoint-prefix") refl,
     ) refl
-plan-is command.Check l = rw (graph-is l) refl
-plan-is command.Partition l = rw (given-option l (codes "--parts") refl, given-option l (codes "--partitioner") refl, graph-is l) refl
+
+plan-is : (c : Command) (l : Log) → plan_of_said c (split l) ≡ plan_of_values c (given l)
+plan-is command.Run l = (λ i. then_with (run-plan-is l i) (λ options. then_with (argument_in (codes "GRAPH") (given-argument l i)) (λ graph. Ok (plan.Run graph options))))
+plan-is command.Restart l =
+    (λ i. then_with (run-plan-is l i) (λ options. then_with (argument_in (codes "CHECKPOINT") (given-argument l i)) (λ checkpoint. Ok (plan.Restart checkpoint options))))
+plan-is command.Check l = rw (given-argument l) refl
+plan-is command.Partition l = rw (given-option l (codes "--parts") refl, given-option l (codes "--partitioner") refl, given-argument l) refl
 
 abbrev rows_in : Option (List Row) → List Row
 rows_in None = []
@@ -219,23 +217,29 @@ planned c longs words (Ok m) h = ap (plan_of_words c) (said-log longs words free
 planned c longs words (Err e) (inl h) = inl h
 planned c longs words (Err e) (inr h) = inr (ap (plan_of_words c) (said-log longs words free tt) ∙ no-plan c (log_from (names_of longs) free words) h)
 
-abbrev longs_of : Command → List Word
-longs_of command.Run = codes "stop-at" ∷ codes "threads" ∷ codes "parts" ∷ codes "partitioner" ∷ codes "exchange" ∷ codes "stats" ∷ codes "sync-report" ∷ []
-longs_of command.Check = []
-longs_of command.Partition = codes "parts" ∷ codes "partitioner" ∷ []
+abbrev run_longs : List Word
+run_longs =
+    codes "stop-at" ∷ codes "threads" ∷ codes "parts" ∷ codes "partitioner" ∷ codes "exchange" ∷ codes "stats" ∷ codes "sync-report"
+    ∷ codes "checkpoint-at" ∷ codes "checkpoint-period" ∷ codes "checkpoint-prefix" ∷ []
+
+abbrev partition_longs : List Word
+partition_longs = codes "parts" ∷ codes "partitioner" ∷ []
 
 -- a parse of a command reads the words as the grammar does
 pub reads : (k : Command) (a : App) (words : List Word) (r : Result ArgMatches Error) → a ≡ app_for k → (is_simple_and_free a ≡ true → FailsBy (fault_of a words) r)
     → IfOk r (HasMatchesOf a words) → Reads k words r
-reads command.Run a words r e fails has = λ u.
-    planned command.Run (longs_of command.Run) words r
-    (parses (codes "sst") (longs_of command.Run) a words r u (ap built e) (ap (λ x. x.top.no_binary_name) e) (ap is_simple e) (fails (ap is_simple_and_free e)) has)
-reads command.Check a words r e fails has = λ u.
-    planned command.Check (longs_of command.Check) words r
-    (parses (codes "sst") (longs_of command.Check) a words r u (ap built e) (ap (λ x. x.top.no_binary_name) e) (ap is_simple e) (fails (ap is_simple_and_free e)) has)
-reads command.Partition a words r e fails has = λ u.
-    planned command.Partition (longs_of command.Partition) words r
-    (parses (codes "sst") (longs_of command.Partition) a words r u (ap built e) (ap (λ x. x.top.no_binary_name) e) (ap is_simple e) (fails (ap is_simple_and_free e)) has)
+reads k a words r e fails has = go k e
+  where
+    read-by : (k : Command) (longs : List Word) → built a ≡ record { top = shape_of (codes "sst") longs; subs = [] } → a.top.no_binary_name ≡ true → is_simple a ≡ true → is_simple_and_free a ≡ true → Texts words
+        → MatchResult r (λ m. plan_of_words k (said_from (names_of longs) free words) ≡ plan_of_values k (value_in m))
+        (λ e. (kind_of e ≡ kind.OutOfMemory) ⊎ (plan_of_words k (said_from (names_of longs) free words) ≡ Err usage.Words))
+    read-by k longs built_is bare simple is_free u = planned k longs words r (parses (codes "sst") longs a words r u built_is bare simple (fails is_free) has)
+
+    go : (k : Command) → a ≡ app_for k → Reads k words r
+    go command.Run e = read-by command.Run run_longs (ap built e) (ap (λ x. x.top.no_binary_name) e) (ap is_simple e) (ap is_simple_and_free e)
+    go command.Restart e = read-by command.Restart run_longs (ap built e) (ap (λ x. x.top.no_binary_name) e) (ap is_simple e) (ap is_simple_and_free e)
+    go command.Check e = read-by command.Check [] (ap built e) (ap (λ x. x.top.no_binary_name) e) (ap is_simple e) (ap is_simple_and_free e)
+    go command.Partition e = read-by command.Partition partition_longs (ap built e) (ap (λ x. x.top.no_binary_name) e) (ap is_simple e) (ap is_simple_and_free e)
 
 pub texts-more : (words : List Word) (word : Word) → Texts words → IsUtf8 word → Texts (words ++ word ∷ [])
 texts-more [] word h u = (u, tt)

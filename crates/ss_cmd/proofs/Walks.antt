@@ -1,5 +1,5 @@
 -- The words of a command, as clap walks over them: a command of one argument and options with one value each.
-use Rattle.std.proofs.Common.{◌≡◌, ◌∙◌, ◌⊎◌, ◌==◌, ◌&&◌, ◌||◌, ◌+◌, inl, inr, ℕ, suc, Bool, cond, true, false, not, nat_lt, refl, sym, ap, subst, arith, List, [], ◌∷◌, ◌++◌, map, length, fold, Option, Some, None, is_some, option_map, if◌then◌else◌, codes, true≢false, bytes_eq, eqb-true, IsUtf8, encode_utf8_all, Result, Ok, Err, IfOk, MatchResult, take, drop, lt-ltb, ltb-true, le-ltb, ltb-false}
+use Rattle.std.proofs.Common.{◌≡◌, ◌∙◌, ◌⊎◌, ◌==◌, ◌&&◌, ◌||◌, ◌+◌, inl, inr, ℕ, suc, Bool, cond, true, false, not, nat_lt, refl, sym, ap, subst, arith, List, [], ◌∷◌, ◌++◌, map, length, fold, Option, Some, None, is_some, option_map, if◌then◌else◌, true≢false, bytes_eq, eqb-true, IsUtf8, encode_utf8_all, Result, Ok, Err, IfOk, MatchResult, take, drop, lt-ltb, ltb-true, le-ltb, ltb-false}
 use Rattle.std.specs.Prelude.{slice_get}
 use Rattle.std.specs.Char.{encode_utf8}
 use Rattle.std.specs.List.{list_any, before_first, after_first, position_or_len}
@@ -23,7 +23,7 @@ use Rattle.clap.specs.declared.builder.action.ArgAction.TheVariants.{Set}
 use Rattle.clap.specs.declared.builder.value_parser.ValueParser.TheVariants as vp
 use Rattle.clap.specs.declared.error.kind.ErrorKind.TheVariants as kind
 use Rattle.clap.specs.declared.parser.matches.ValueSource.TheVariants.{CommandLine}
-use Rattle.ss_cmd.specs.Reads.{Texts}
+use Rattle.ss_cmd.specs.Reads.{Texts, argument_id}
 use Rattle.ss_cmd.specs.Words.{Said, Read, Where, free, value_of, behind, at_end, given, is_among, is_dashed, is_distinct, is_equals, nothing, read_free, read_word}
 
 abbrev pub Word : Type 0
@@ -32,9 +32,6 @@ Word = List ℕ
 -- what was used, in order: an option's name or the argument's, with the value
 abbrev pub Log : Type 0
 Log = List (Word × Word)
-
-abbrev pub graph_id : Word
-graph_id = codes "GRAPH"
 
 abbrev pub dashed : Word → Word
 dashed n = 45 ∷ 45 ∷ n
@@ -48,8 +45,8 @@ option_rule n = record (new_rule (dashed n)) {
   parser = Some vp.String;
 }
 
-abbrev pub graph_rule : Rule
-graph_rule = record (new_rule graph_id) {
+abbrev pub argument_rule : Rule
+argument_rule = record (new_rule argument_id) {
   required = true;
   index = Some 1;
   action = Some Set;
@@ -58,7 +55,7 @@ graph_rule = record (new_rule graph_id) {
 }
 
 abbrev pub rules_of : List Word → List Rule
-rules_of longs = graph_rule ∷ map option_rule longs
+rules_of longs = argument_rule ∷ map option_rule longs
 
 abbrev pub names_of : List Word → List Word
 names_of longs = map dashed longs
@@ -277,17 +274,17 @@ use-passes log id v required long index d = go (is_some (given log id)) refl
 
 pub data Pend (longs : List Word) : Type 0 where
   no_pend : Pend longs
-  of_graph : Word → Pend longs
+  of_argument : Word → Pend longs
   of_option : (n v : Word) → arg_by_id (map option_rule longs) (dashed n) ≡ Some (option_rule n) → Pend longs
 
 abbrev pub pending : {longs : List Word} → Pend longs → Option (Word × List Word)
 pending no_pend = None
-pending (of_graph v) = Some (graph_id, v ∷ [])
+pending (of_argument v) = Some (argument_id, v ∷ [])
 pending (of_option n v k) = Some (dashed n, v ∷ [])
 
 abbrev pub pended : {longs : List Word} → Pend longs → Log
 pended no_pend = []
-pended (of_graph v) = (graph_id, v) ∷ []
+pended (of_argument v) = (argument_id, v) ∷ []
 pended (of_option n v k) = (dashed n, v) ∷ []
 
 abbrev pub held_at : List Row → Option (Word × List Word) → Held
@@ -300,7 +297,7 @@ walk_at rows p waiting position is_trailing =
 -- ---- what the words say, as uses in order
 
 abbrev pub flat : Said → Log
-flat said = said.options ++ map (λ w. (graph_id, w)) said.arguments
+flat said = said.options ++ map (λ w. (argument_id, w)) said.arguments
 
 abbrev pub log_then : Option Read → (Where → Option Log) → Option Log
 log_then None f = None
@@ -311,7 +308,7 @@ log_from names at [] = option_map flat (at_end at)
 log_from names at (word ∷ words) = log_then (read_word names at word) (λ next. log_from names next words)
 
 abbrev pub judged_log : Log → Option (List Row)
-judged_log l = if is_distinct l && is_some (given l graph_id) then Some (rows_of l) else None
+judged_log l = if is_distinct l && is_some (given l argument_id) then Some (rows_of l) else None
 
 -- the rows of what was used and what is yet said, where no name is there twice and the argument is there
 abbrev pub judged : Log → Option Log → Option (List Row)
@@ -494,20 +491,20 @@ module _ (name : Word) (longs : List Word) where
 
   settles : (log : Log) (p : Pend longs) → is_distinct log ≡ true → Settles log p
   settles log no_pend d = inl (refl, ap rows_of (sym (append-nil log)), ap is_distinct (append-nil log) ∙ d)
-  settles log (of_graph v) d = use-passes log graph_id v true None (Some 1) d
+  settles log (of_argument v) d = use-passes log argument_id v true None (Some 1) d
   settles log (of_option n v k) d = rw k (use-passes log (dashed n) v false (Some n) None d)
 
   -- the end
   end-finished : (h : Held) → finished c h ≡ (settled c h).rows
   end-finished h =
-      ap (λ rs. fold with_default rs (map option_rule longs)) (same-cond (has_row graph_id (settled c h).rows) (settled c h).rows) ∙ no_defaults longs (settled c h).rows
+      ap (λ rs. fold with_default rs (map option_rule longs)) (same-cond (has_row argument_id (settled c h).rows) (settled c h).rows) ∙ no_defaults longs (settled c h).rows
 
   end-defaults : (rows : List Row) → defaults_fault rows c ≡ []
   unfolding defaults_fault
-  end-defaults rows = rw (or-true (has_row graph_id rows), same-cond (has_row graph_id rows) rows) (default_passes rows longs)
+  end-defaults rows = rw (or-true (has_row argument_id rows), same-cond (has_row argument_id rows) rows) (default_passes rows longs)
 
-  end-check : (rows : List Row) → none (check_fault s rows false) ≡ is_given graph_id rows
-  end-check rows = rw (none_required longs rows, or-false (not (is_given graph_id rows))) (go (is_given graph_id rows))
+  end-check : (rows : List Row) → none (check_fault s rows false) ≡ is_given argument_id rows
+  end-check rows = rw (none_required longs rows, or-false (not (is_given argument_id rows))) (go (is_given argument_id rows))
     where
       go : (b : Bool) → none (cond (not b) (kind.MissingRequiredArgument ∷ []) []) ≡ b
       go true = refl
@@ -597,10 +594,10 @@ module _ (name : Word) (longs : List Word) where
 
   -- the first argument, and any further one
   first-fault : (rows : List Row) (p : Option (Word × List Word)) → step_fault s 1 (held_at rows p) value ≡ Fault rows p
-  first-fault rows p = rw (and-false (is_pending graph_rule p)) refl
+  first-fault rows p = rw (and-false (is_pending argument_rule p)) refl
 
-  first-walk : (rows : List Row) (p : Option (Word × List Word)) (tr : Bool) (word : Word) → arg_walk rows p 1 tr word ≡ walk_at (settled_rows c p rows) (Some (graph_id, word ∷ [])) idle 2 tr
-  first-walk rows p tr word = rw (and-false (is_pending graph_rule p), or-false tr) refl
+  first-walk : (rows : List Row) (p : Option (Word × List Word)) (tr : Bool) (word : Word) → arg_walk rows p 1 tr word ≡ walk_at (settled_rows c p rows) (Some (argument_id, word ∷ [])) idle 2 tr
+  first-walk rows p tr word = rw (and-false (is_pending argument_rule p), or-false tr) refl
 
   more-fault : (rows : List Row) (p : Option (Word × List Word)) → none (step_fault s 2 (held_at rows p) value) ≡ false
   more-fault rows p = rw (no_second longs) refl
@@ -646,23 +643,23 @@ module _ (name : Word) (longs : List Word) where
   spot tr = cond tr behind free
 
   abbrev Idle : List Word → Type 0
-  Idle words = (log : Log) (p : Pend longs) (g tr : Bool) → is_distinct log ≡ true → is_some (given (log ++ pended p) graph_id) ≡ g
+  Idle words = (log : Log) (p : Pend longs) (g tr : Bool) → is_distinct log ≡ true → is_some (given (log ++ pended p) argument_id) ≡ g
       → run (walk_at (rows_of log) (pending p) idle (place g) tr) words ≡ judged (log ++ pended p) (log_from names (spot tr) words)
 
   abbrev Waits : List Word → Type 0
-  Waits words = (log : Log) (n : Word) (g : Bool) → Known n → is_distinct log ≡ true → is_some (given log graph_id) ≡ g
+  Waits words = (log : Log) (n : Word) (g : Bool) → Known n → is_distinct log ≡ true → is_some (given log argument_id) ≡ g
       → run (walk_at (rows_of log) (Some (dashed n, [])) (option (dashed n)) (place g) false) words ≡ judged log (log_from names (value_of (dashed n)) words)
 
   -- an option is no argument
-  still : (log : Log) (n v : Word) (g : Bool) → is_some (given log graph_id) ≡ g → is_some (given (log ++ (dashed n, v) ∷ []) graph_id) ≡ g
-  still log n v g e = given-append log ((dashed n, v) ∷ []) graph_id ∙ or-false _ ∙ e
+  still : (log : Log) (n v : Word) (g : Bool) → is_some (given log argument_id) ≡ g → is_some (given (log ++ (dashed n, v) ∷ []) argument_id) ≡ g
+  still log n v g e = given-append log ((dashed n, v) ∷ []) argument_id ∙ or-false _ ∙ e
 
   judged-end : (log : Log) (tr : Bool) → judged log (log_from names (spot tr) []) ≡ judged_log log
   judged-end log true = ap judged_log (append-nil log)
   judged-end log false = ap judged_log (append-nil log)
 
   end-is : (h : Held) (rows : List Row) → settle_fault c false h ≡ [] → (settled c h).rows ≡ rows
-      → cond (none (end_fault h)) (Some (finished c h)) None ≡ cond (is_given graph_id rows) (Some rows) None
+      → cond (none (end_fault h)) (Some (finished c h)) None ≡ cond (is_given argument_id rows) (Some rows) None
   end-is h rows e same =
       let fin : finished c h ≡ rows = end-finished h ∙ same in
       (λ i. cond (none (or_else (e i) (or_else (defaults_fault (same i) c) (check_fault s (fin i) false)))) (Some (fin i)) None)
@@ -675,9 +672,9 @@ module _ (name : Word) (longs : List Word) where
       go : Settles log p → run (walk_at (rows_of log) (pending p) idle (place g) tr) [] ≡ judged (log ++ pended p) (log_from names (spot tr) [])
       go (inl h) =
           let log2 = log ++ pended p in
-          let here : judged_log log2 ≡ cond (is_some (given log2 graph_id)) (Some (rows_of log2)) None = rw h.2 refl in
+          let here : judged_log log2 ≡ cond (is_some (given log2 argument_id)) (Some (rows_of log2)) None = rw h.2 refl in
           end-is (held_at (rows_of log) (pending p)) (rows_of log2) h.0 h.1
-          ∙ ap (λ b. cond b (Some (rows_of log2)) None) (is_given-given log2 graph_id) ∙ sym here ∙ sym (judged-end log2 tr)
+          ∙ ap (λ b. cond b (Some (rows_of log2)) None) (is_given-given log2 argument_id) ∙ sym here ∙ sym (judged-end log2 tr)
       go (inr h) = rw (none-or (Fault (rows_of log) (pending p)) _ h.0) (sym (judged-none (log ++ pended p) (log_from names (spot tr) []) h.1))
 
   waits-ends : Waits []
@@ -686,7 +683,7 @@ module _ (name : Word) (longs : List Word) where
   abbrev argument_read : Bool → Word → Read
   argument_read tr word = record { said = record { options = []; arguments = word ∷ [] }; next = spot tr }
 
-  arg-step : (rest : List Word) → Idle rest → (log : Log) (p : Pend longs) (g tr : Bool) (word : Word) → is_distinct log ≡ true → is_some (given (log ++ pended p) graph_id) ≡ g
+  arg-step : (rest : List Word) → Idle rest → (log : Log) (p : Pend longs) (g tr : Bool) (word : Word) → is_distinct log ≡ true → is_some (given (log ++ pended p) argument_id) ≡ g
       → turn_fault s [] (walk_at (rows_of log) (pending p) idle (place g) tr) word ≡ step_fault s (place g) (held_at (rows_of log) (pending p)) value
       → walked c [] (walk_at (rows_of log) (pending p) idle (place g) tr) word ≡ arg_walk (rows_of log) (pending p) (place g) tr word
       → read_word names (spot tr) word ≡ Some (argument_read tr word)
@@ -694,27 +691,27 @@ module _ (name : Word) (longs : List Word) where
   arg-step rest ih log p true tr word d e fault walks read =
       run-fault (walk_at (rows_of log) (pending p) idle 2 tr) word rest (ap none fault ∙ more-fault (rows_of log) (pending p))
       ∙ sym (judged-step names (log ++ pended p) (spot tr) word rest (argument_read tr word) read
-      ∙ judged-none ((log ++ pended p) ++ (graph_id, word) ∷ []) (log_from names (spot tr) rest)
-      (λ l. ap is_distinct (append-assoc (log ++ pended p) ((graph_id, word) ∷ []) l) ∙ distinct-twice (log ++ pended p) l graph_id word e))
+      ∙ judged-none ((log ++ pended p) ++ (argument_id, word) ∷ []) (log_from names (spot tr) rest)
+      (λ l. ap is_distinct (append-assoc (log ++ pended p) ((argument_id, word) ∷ []) l) ∙ distinct-twice (log ++ pended p) l argument_id word e))
   arg-step rest ih log p false tr word d e fault walks read = go (settles log p d)
     where
       go : Settles log p → run (walk_at (rows_of log) (pending p) idle 1 tr) (word ∷ rest) ≡ judged (log ++ pended p) (log_from names (spot tr) (word ∷ rest))
       go (inl h) =
-          run-next (walk_at (rows_of log) (pending p) idle 1 tr) (walk_at (rows_of (log ++ pended p)) (Some (graph_id, word ∷ [])) idle 2 tr) word rest
+          run-next (walk_at (rows_of log) (pending p) idle 1 tr) (walk_at (rows_of (log ++ pended p)) (Some (argument_id, word ∷ [])) idle 2 tr) word rest
           (fault ∙ first-fault (rows_of log) (pending p) ∙ h.0)
-          (walks ∙ first-walk (rows_of log) (pending p) tr word ∙ ap (λ rs. walk_at rs (Some (graph_id, word ∷ [])) idle 2 tr) h.1)
-          ∙ ih (log ++ pended p) (of_graph word) true tr h.2 (given-append (log ++ pended p) ((graph_id, word) ∷ []) graph_id ∙ or-true _)
+          (walks ∙ first-walk (rows_of log) (pending p) tr word ∙ ap (λ rs. walk_at rs (Some (argument_id, word ∷ [])) idle 2 tr) h.1)
+          ∙ ih (log ++ pended p) (of_argument word) true tr h.2 (given-append (log ++ pended p) ((argument_id, word) ∷ []) argument_id ∙ or-true _)
           ∙ sym (judged-step names (log ++ pended p) (spot tr) word rest (argument_read tr word) read)
       go (inr h) = run-fault (walk_at (rows_of log) (pending p) idle 1 tr) word rest (ap none (fault ∙ first-fault (rows_of log) (pending p)) ∙ h.0) ∙ sym (judged-none (log ++ pended p) (log_from names (spot tr) (word ∷ rest)) h.1)
 
   -- ---- a long word
 
   abbrev IdleAt : Word → List Word → Type 0
-  IdleAt word rest = (log : Log) (p : Pend longs) (g : Bool) → is_distinct log ≡ true → is_some (given (log ++ pended p) graph_id) ≡ g
+  IdleAt word rest = (log : Log) (p : Pend longs) (g : Bool) → is_distinct log ≡ true → is_some (given (log ++ pended p) argument_id) ≡ g
       → run (walk_at (rows_of log) (pending p) idle (place g) false) (word ∷ rest) ≡ judged (log ++ pended p) (log_from names free (word ∷ rest))
 
   module _ (rest : List Word) (after : Idle rest) (waits : Waits rest) (z : ℕ) (r : Word) (log : Log) (p : Pend longs) (g : Bool) (d : is_distinct log ≡ true)
-      (e : is_some (given (log ++ pended p) graph_id) ≡ g) where
+      (e : is_some (given (log ++ pended p) argument_id) ≡ g) where
     abbrev t : Word
     t = z ∷ r
 
@@ -746,7 +743,7 @@ module _ (name : Word) (longs : List Word) where
         (turn-value (rows_of log) (pending p) idle (place g) z r refl k.1 has ∙ (λ i. or_else (or_else (none_yet i) (use_at (same i))) []) ∙ ap (λ k. or_else k []) u.0)
         (walked-value (rows_of log) (pending p) (place g) z r k.1 has ∙ ap (λ rs. walk_at (used (option_rule n) (v ∷ []) rs) None idle (place g) false) same
         ∙ ap (λ rs. walk_at rs None idle (place g) false) u.1)
-        ∙ after (so_far ++ (dashed n, v) ∷ []) no_pend g false u.2 (ap (λ l. is_some (given l graph_id)) (append-nil (so_far ++ (dashed n, v) ∷ [])) ∙ still so_far n v g e)
+        ∙ after (so_far ++ (dashed n, v) ∷ []) no_pend g false u.2 (ap (λ l. is_some (given l argument_id)) (append-nil (so_far ++ (dashed n, v) ∷ [])) ∙ still so_far n v g e)
         ∙ ap (λ l. judged l (log_from names free rest)) (append-nil (so_far ++ (dashed n, v) ∷ []))
         ∙ sym (judged-step names so_far free (dashed t) rest value_read (read-long-value longs t (some-lt (length r)) k.0 has))
     value-used k has none_yet same (inr u) =
@@ -816,7 +813,7 @@ module _ (name : Word) (longs : List Word) where
   -- ---- any word, where an option waits
 
   abbrev WaitsAt : Word → List Word → Type 0
-  WaitsAt word rest = (log : Log) (n : Word) (g : Bool) → Known n → is_distinct log ≡ true → is_some (given log graph_id) ≡ g
+  WaitsAt word rest = (log : Log) (n : Word) (g : Bool) → Known n → is_distinct log ≡ true → is_some (given log argument_id) ≡ g
       → run (walk_at (rows_of log) (Some (dashed n, [])) (option (dashed n)) (place g) false) (word ∷ rest) ≡ judged log (log_from names (value_of (dashed n)) (word ∷ rest))
 
   dashed-refused : (n : Word) (x : ℕ) (r : Word) → read_word names (value_of n) (45 ∷ x ∷ r) ≡ None

@@ -7,13 +7,13 @@ use Rattle.ss_units.specs.declared.units.UnitFault.{UnitFault}
 use Rattle.ss_part.specs.declared.How.{How}
 use Rattle.ss_part.specs.declared.How.TheVariants as how
 
-abbrev pub ok_of : Result ℕ UnitFault → Option ℕ
-ok_of (Ok n) = Some n
-ok_of (Err e) = None
+abbrev pub ok_from : ℕ → Result ℕ UnitFault → Option ℕ
+ok_from least (Ok n) = if nat_le least n then Some n else None
+ok_from least (Err e) = None
 
--- a time in picoseconds
-abbrev pub time : List ℕ → Option ℕ
-time s = ok_of (ps s)
+-- a time in picoseconds, from the least on
+abbrev pub time_from : ℕ → List ℕ → Option ℕ
+time_from least s = ok_from least (ps s)
 
 -- the number that digits write, where there are digits alone
 abbrev pub all_digits : List ℕ → Option ℕ
@@ -27,9 +27,16 @@ has_leading_0 (b ∷ s) = b == 48 && nat_lt 0 (length s)
 abbrev pub count : List ℕ → Option ℕ
 count s = if nat_lt 0 (length s) && nat_le (length s) 9 && not (has_leading_0 s) then all_digits s else None
 
--- a name has 1 to 255 bytes
+-- a name of 1 to so many bytes
+abbrev pub name_within : ℕ → List ℕ → Option (List ℕ)
+name_within most s = if nat_lt 0 (length s) && nat_le (length s) most then Some s else None
+
 abbrev pub name : List ℕ → Option (List ℕ)
-name s = if nat_lt 0 (length s) && nat_lt (length s) 256 then Some s else None
+name = name_within 255
+
+-- what the names of checkpoints begin with
+abbrev pub prefix : List ℕ → Option (List ℕ)
+prefix = name_within 200
 
 -- a partitioner
 abbrev pub partitioner : List ℕ → Option How

@@ -2,8 +2,8 @@
 #![tactic(auto)]
 
 ghost use Rattle.std.specs.Prelude.{◌≡◌, IfOk};
-ghost use Rattle.ss_cmd.specs.Grammar.{Gives, IsEarly, plan_by, plan_of_words, command_named, options_of};
-ghost use Rattle.ss_cmd.specs.Reads.{plan_of_values, spread_of, value_in};
+ghost use Rattle.ss_cmd.specs.Grammar.{AreInRange, Gives, IsEarly, plan_by, plan_of_words, command_named, options_of, run_options_in, spread_in};
+ghost use Rattle.ss_cmd.specs.Reads.{plan_of_values, value_in};
 ghost use Rattle.ss_cmd.specs.Words.{said_from, free};
 
 #[cfg(test)]
@@ -15,13 +15,17 @@ use clap::ArgMatches;
 use ss_part::How;
 use ss_units::Text;
 use std::alloc::{AllocError, Global};
-use values::{count_given, exchange_given, graph_given, name_given, partitioner_given, time_given};
+use values::{
+    MOST_NAME, argument_given, count_given, exchange_given, name_given, partitioner_given,
+    prefix_given, time_given,
+};
 use words::{matches_of, refusal, texts_of};
 
 /// A command.
 #[derive(Clone, Copy, Debug, PartialEq, Eq)]
 pub enum Command {
     Run,
+    Restart,
     Check,
     Partition,
 }
@@ -49,6 +53,12 @@ pub struct RunOptions {
     pub stats: Option<Text>,
     /// The name under which the report on windows is put.
     pub sync_report: Option<Text>,
+    /// A time, in ps, for which a checkpoint is put.
+    pub checkpoint_at: Option<u64>,
+    /// The period, in ps, for each multiple of which a checkpoint is put.
+    pub checkpoint_period: Option<u64>,
+    /// What the names of the checkpoints begin with.
+    pub checkpoint_prefix: Text,
 }
 
 /// What the words of a call ask for.
@@ -57,6 +67,11 @@ pub enum Plan {
     /// To run a graph.
     Run {
         graph: Text,
+        options: RunOptions,
+    },
+    /// To go on with a run from a checkpoint.
+    Restart {
+        checkpoint: Text,
         options: RunOptions,
     },
     /// To judge a graph.
@@ -100,6 +115,7 @@ fn command_of(word: &str) -> Option<Command>
 {
     match word {
         "run" => Some(Command::Run),
+        "restart" => Some(Command::Restart),
         "check" => Some(Command::Check),
         "partition" => Some(Command::Partition),
         _ => None,
@@ -108,7 +124,7 @@ fn command_of(word: &str) -> Option<Command>
 
 /// The spread that options give: one thread, the linear partitioner and no queues, where they give nothing else.
 fn spread_given(alloc: Global, matches: &ArgMatches) -> Result<Spread, Usage>
-    ensures { Gives (spread_of (value_in matches.now)) result }
+    ensures { Gives (spread_in (value_in matches.now)) result }
 {
     let threads = count_given(alloc, matches, "--threads")?;
     let parts = count_given(alloc, matches, "--parts")?;
@@ -122,23 +138,47 @@ fn spread_given(alloc: Global, matches: &ArgMatches) -> Result<Spread, Usage>
     })
 }
 
+/// The options of a run. A refusal is that of the first one, in their order, whose value is refused.
+fn run_options_given(alloc: Global, matches: &ArgMatches) -> Result<RunOptions, Usage>
+    ensures given { Gives (run_options_in (value_in matches.now)) result }
+    ensures early { IfOk result AreInRange }
+{
+    let stop_at = time_given(alloc, matches, "--stop-at", 0)?;
+    let spread = spread_given(alloc, matches)?;
+    let stats = name_given(alloc, matches, "--stats", MOST_NAME)?;
+    let sync_report = name_given(alloc, matches, "--sync-report", MOST_NAME)?;
+    let checkpoint_at = time_given(alloc, matches, "--checkpoint-at", 1)?;
+    let checkpoint_period = time_given(alloc, matches, "--checkpoint-period", 1)?;
+    let checkpoint_prefix = prefix_given(alloc, matches)?;
+    Ok(RunOptions {
+        stop_at,
+        spread,
+        stats,
+        sync_report,
+        checkpoint_at,
+        checkpoint_period,
+        checkpoint_prefix,
+    })
+}
+
 fn run_plan(alloc: Global, matches: &ArgMatches) -> Result<Plan, Usage>
     ensures given { Gives (plan_of_values Command.Run (value_in matches.now)) result }
     ensures early { IfOk result IsEarly }
 {
-    let stop_at = time_given(alloc, matches, "--stop-at")?;
-    let spread = spread_given(alloc, matches)?;
-    let stats = name_given(alloc, matches, "--stats")?;
-    let sync_report = name_given(alloc, matches, "--sync-report")?;
-    let graph = graph_given(alloc, matches)?;
-    Ok(Plan::Run {
-        graph,
-        options: RunOptions {
-            stop_at,
-            spread,
-            stats,
-            sync_report,
-        },
+    let options = run_options_given(alloc, matches)?;
+    let graph = argument_given(alloc, matches, "GRAPH")?;
+    Ok(Plan::Run { graph, options })
+}
+
+fn restart_plan(alloc: Global, matches: &ArgMatches) -> Result<Plan, Usage>
+    ensures given { Gives (plan_of_values Command.Restart (value_in matches.now)) result }
+    ensures early { IfOk result IsEarly }
+{
+    let options = run_options_given(alloc, matches)?;
+    let checkpoint = argument_given(alloc, matches, "CHECKPOINT")?;
+    Ok(Plan::Restart {
+        checkpoint,
+        options,
     })
 }
 
@@ -146,7 +186,7 @@ fn check_plan(alloc: Global, matches: &ArgMatches) -> Result<Plan, Usage>
     ensures given { Gives (plan_of_values Command.Check (value_in matches.now)) result }
     ensures early { IfOk result IsEarly }
 {
-    let graph = graph_given(alloc, matches)?;
+    let graph = argument_given(alloc, matches, "GRAPH")?;
     Ok(Plan::Check { graph })
 }
 
@@ -156,7 +196,7 @@ fn partition_plan(alloc: Global, matches: &ArgMatches) -> Result<Plan, Usage>
 {
     let parts = count_given(alloc, matches, "--parts")?;
     let how = partitioner_given(alloc, matches, "--partitioner")?;
-    let graph = graph_given(alloc, matches)?;
+    let graph = argument_given(alloc, matches, "GRAPH")?;
     Ok(Plan::Partition {
         graph,
         parts,
@@ -176,6 +216,7 @@ fn plan_of_command(alloc: Global, command: Command, words: &[Text]) -> Result<Pl
     };
     match command {
         Command::Run => run_plan(alloc, &matches),
+        Command::Restart => restart_plan(alloc, &matches),
         Command::Check => check_plan(alloc, &matches),
         Command::Partition => partition_plan(alloc, &matches),
     }
@@ -184,11 +225,12 @@ fn plan_of_command(alloc: Global, command: Command, words: &[Text]) -> Result<Pl
 /// What the words of a call, those behind the program's name, ask for.
 ///
 /// The first word is the command: `run GRAPH` with `--stop-at=TIME`, `--threads=N`, `--parts=N`,
-/// `--partitioner=KIND`, `--exchange=KIND`, `--stats=NAME` and `--sync-report=NAME`, `check GRAPH`, or
-/// `partition GRAPH` with `--parts=N` and `--partitioner=KIND`. An option is written `--name=value` or as two words,
-/// in any order and each at most once; `--` ends the options. Before it a word of two or more bytes that begins with
-/// `-` is one of the options, or the words are refused. Values are judged after the words, in the order above. The
-/// grammar is this project's own.
+/// `--partitioner=KIND`, `--exchange=KIND`, `--stats=NAME`, `--sync-report=NAME`, `--checkpoint-at=TIME`,
+/// `--checkpoint-period=TIME` and `--checkpoint-prefix=NAME`, `restart CHECKPOINT` with the same options,
+/// `check GRAPH`, or `partition GRAPH` with `--parts=N` and `--partitioner=KIND`. An option is written `--name=value`
+/// or as two words, in any order and each at most once; `--` ends the options. Before it a word of two or more bytes
+/// that begins with `-` is one of the options, or the words are refused. Values are judged after the words, in the
+/// order above, and the argument last. The grammar is this project's own.
 pub fn plan_of(alloc: Global, words: &[Text]) -> Result<Plan, Usage>
     ensures given { Gives (plan_by words.now) result }
     ensures early { IfOk result IsEarly }

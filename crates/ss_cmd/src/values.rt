@@ -1,11 +1,12 @@
 //! The values of options and arguments.
 
-ghost use Rattle.std.specs.Prelude.{◌≡◌, ◌⊎◌, ◌≤◌, ◌^◌, length, IfOk, IfSome, codes};
-ghost use Rattle.ss_cmd.specs.Grammar.{Gives, or_refused, read_given};
-ghost use Rattle.ss_cmd.specs.Reads.{graph_of, value_in};
-ghost use Rattle.ss_cmd.specs.Values.{count, exchange, time, name as name_value, partitioner, all_digits};
+ghost use Rattle.std.specs.Prelude.{◌≡◌, ◌⊎◌, ◌≤◌, ◌^◌, length, IfOk, IfSome};
+ghost use Rattle.ss_cmd.specs.Grammar.{Gives, argument_in, option_in, or_refused, prefix_in};
+ghost use Rattle.ss_cmd.specs.Reads.{argument_id, value_in};
+ghost use Rattle.ss_cmd.specs.Values.{count, exchange, time_from, name_within, partitioner, all_digits};
 
 use crate::Usage;
+use crate::words::ARGUMENT;
 use clap::ArgMatches;
 use ss_part::How;
 use ss_units::{Text, ps_of};
@@ -15,7 +16,10 @@ use std::alloc::Global;
 const MOST_DIGITS: usize = 9;
 
 /// The most bytes of a name.
-const MOST_NAME: usize = 255;
+pub const MOST_NAME: usize = 255;
+
+/// The most bytes of what the names of checkpoints begin with.
+const MOST_PREFIX: usize = 200;
 
 fn refused(alloc: Global, whose: &str) -> Usage
     ensures { (result ≡ Usage.NoMemory) ⊎ (result ≡ Usage.Value whose.now) }
@@ -78,35 +82,41 @@ fn exchange_of(text: &str) -> Option<bool>
     }
 }
 
-/// A name, as the value of an option or an argument.
-fn named(alloc: Global, whose: &str, text: &str) -> Result<Text, Usage>
-    ensures { Gives (or_refused whose.now (name_value text.now)) result }
+/// A name of at most so many bytes, as the value of an option or an argument.
+fn named(alloc: Global, whose: &str, text: &str, most: usize) -> Result<Text, Usage>
+    ensures given { Gives (or_refused whose.now (name_within most text.now)) result }
+    ensures bounds { IfOk result (λ s. (1 ≤ length s) × (length s ≤ most)) }
 {
     let len = text.as_bytes().len();
-    if len == 0 || len > MOST_NAME {
+    if len == 0 || len > most {
         return Err(refused(alloc, whose));
     }
     Ok(Text::new(alloc, text)?)
 }
 
-/// The time that an option is given.
+/// The time that an option is given, in ps, from the least on.
 #[tactic(auto, using(crate::proofs::Times::early))]
-pub fn time_given(alloc: Global, matches: &ArgMatches, whose: &str) -> Result<Option<u64>, Usage>
-    ensures given { Gives (read_given time whose.now (value_in matches.now whose.now)) result }
-    ensures early { IfOk result (λ o. IfSome o (λ t. t ≤ 2 ^ 62)) }
+pub fn time_given(
+    alloc: Global,
+    matches: &ArgMatches,
+    whose: &str,
+    least: u64,
+) -> Result<Option<u64>, Usage>
+    ensures given { Gives (option_in (time_from least) whose.now (value_in matches.now)) result }
+    ensures bounds { IfOk result (λ o. IfSome o (λ t. (least ≤ t) × (t ≤ 2 ^ 62))) }
 {
     match matches.get_str(whose) {
         None => Ok(None),
         Some(text) => match ps_of(text.as_bytes()) {
-            Ok(time) => Ok(Some(time)),
-            Err(_) => Err(refused(alloc, whose)),
+            Ok(time) if time >= least => Ok(Some(time)),
+            _ => Err(refused(alloc, whose)),
         },
     }
 }
 
 /// The number that an option is given.
 pub fn count_given(alloc: Global, matches: &ArgMatches, whose: &str) -> Result<Option<u32>, Usage>
-    ensures { Gives (read_given count whose.now (value_in matches.now whose.now)) result }
+    ensures { Gives (option_in count whose.now (value_in matches.now)) result }
 {
     match matches.get_str(whose) {
         None => Ok(None),
@@ -117,16 +127,33 @@ pub fn count_given(alloc: Global, matches: &ArgMatches, whose: &str) -> Result<O
     }
 }
 
-/// The name that an option is given.
-pub fn name_given(alloc: Global, matches: &ArgMatches, whose: &str) -> Result<Option<Text>, Usage>
-    ensures { Gives (read_given name_value whose.now (value_in matches.now whose.now)) result }
+/// The name of at most so many bytes that an option is given.
+pub fn name_given(
+    alloc: Global,
+    matches: &ArgMatches,
+    whose: &str,
+    most: usize,
+) -> Result<Option<Text>, Usage>
+    ensures given { Gives (option_in (name_within most) whose.now (value_in matches.now)) result }
+    ensures bounds { IfOk result (λ o. IfSome o (λ s. (1 ≤ length s) × (length s ≤ most))) }
 {
     match matches.get_str(whose) {
         None => Ok(None),
-        Some(text) => match named(alloc, whose, text) {
+        Some(text) => match named(alloc, whose, text, most) {
             Ok(name) => Ok(Some(name)),
             Err(usage) => Err(usage),
         },
+    }
+}
+
+/// What the names of checkpoints begin with.
+pub fn prefix_given(alloc: Global, matches: &ArgMatches) -> Result<Text, Usage>
+    ensures given { Gives (prefix_in (value_in matches.now)) result }
+    ensures bounds { IfOk result (λ s. (1 ≤ length s) × (length s ≤ 200)) }
+{
+    match name_given(alloc, matches, "--checkpoint-prefix", MOST_PREFIX)? {
+        Some(prefix) => Ok(prefix),
+        None => Ok(Text::new(alloc, "checkpoint")?),
     }
 }
 
@@ -136,7 +163,7 @@ pub fn partitioner_given(
     matches: &ArgMatches,
     whose: &str,
 ) -> Result<Option<How>, Usage>
-    ensures { Gives (read_given partitioner whose.now (value_in matches.now whose.now)) result }
+    ensures { Gives (option_in partitioner whose.now (value_in matches.now)) result }
 {
     match matches.get_str(whose) {
         None => Ok(None),
@@ -153,7 +180,7 @@ pub fn exchange_given(
     matches: &ArgMatches,
     whose: &str,
 ) -> Result<Option<bool>, Usage>
-    ensures { Gives (read_given exchange whose.now (value_in matches.now whose.now)) result }
+    ensures { Gives (option_in exchange whose.now (value_in matches.now)) result }
 {
     match matches.get_str(whose) {
         None => Ok(None),
@@ -164,12 +191,12 @@ pub fn exchange_given(
     }
 }
 
-/// The name of a graph, as the one argument.
-pub fn graph_given(alloc: Global, matches: &ArgMatches) -> Result<Text, Usage>
-    ensures { Gives (graph_of (value_in matches.now (codes "GRAPH"))) result }
+/// The one argument, a name. A refusal calls it by `whose`.
+pub fn argument_given(alloc: Global, matches: &ArgMatches, whose: &str) -> Result<Text, Usage>
+    ensures { Gives (argument_in whose.now (value_in matches.now argument_id)) result }
 {
-    match matches.get_str("GRAPH") {
+    match matches.get_str(ARGUMENT) {
         None => Err(Usage::Words),
-        Some(graph) => named(alloc, "GRAPH", graph),
+        Some(name) => named(alloc, whose, name, MOST_NAME),
     }
 }

@@ -5,13 +5,16 @@ ghost use Rattle.clap.specs.Words.{app_of, kind_of, with_rule};
 ghost use Rattle.clap.specs.declared.error.kind.ErrorKind.TheVariants as kind;
 ghost use Rattle.ss_cmd.specs.declared.Usage.TheVariants as usage;
 ghost use Rattle.ss_cmd.specs.Words.{texts};
-ghost use Rattle.ss_cmd.specs.Reads.{Reads, Texts, app_for, graph_app, option_rule, spread_app};
+ghost use Rattle.ss_cmd.specs.Reads.{Reads, Texts, app_for, argument_app, checkpoint_app, option_rule, run_app, spread_app};
 
 use crate::Usage;
 use clap::error::ErrorKind;
 use clap::{Arg, ArgAction, ArgMatches, Command, Error};
 use ss_units::Text;
 use std::alloc::{AllocError, Global};
+
+/// The one argument, as clap calls it.
+pub const ARGUMENT: &str = "ARGUMENT";
 
 /// The words, as clap takes them.
 pub fn texts_of<'a>(alloc: Global, words: &'a [Text]) -> Result<Vec<&'a str>, AllocError>
@@ -24,17 +27,17 @@ pub fn texts_of<'a>(alloc: Global, words: &'a [Text]) -> Result<Vec<&'a str>, Al
     Ok(read)
 }
 
-/// A command of one argument, the graph's name.
-fn graph_command<'a>(alloc: Global) -> Result<Command<'a>, AllocError>
-    ensures { IfOk result (λ r. app_of r ≡ graph_app) }
+/// A command of one argument.
+fn argument_command<'a>(alloc: Global) -> Result<Command<'a>, AllocError>
+    ensures { IfOk result (λ r. app_of r ≡ argument_app) }
 {
-    let graph = Arg::new(alloc, "GRAPH")
+    let argument = Arg::new(alloc, ARGUMENT)
         .required(true)
         .action(ArgAction::Set);
     Command::new(alloc, "sst")
         .no_binary_name(true)
         .disable_help_flag(true)
-        .arg(graph)
+        .arg(argument)
 }
 
 /// The command with an option that takes one value.
@@ -60,20 +63,35 @@ fn with_spread<'a>(alloc: Global, command: Command<'a>) -> Result<Command<'a>, A
     with_option(alloc, third, "--exchange", "exchange")
 }
 
+/// The command with the options of checkpoints.
+fn with_checkpoints<'a>(alloc: Global, command: Command<'a>) -> Result<Command<'a>, AllocError>
+    ensures { IfOk result (λ r. app_of r ≡ checkpoint_app (app_of command.entry)) }
+{
+    let first = with_option(alloc, command, "--checkpoint-at", "checkpoint-at")?;
+    let second = with_option(alloc, first, "--checkpoint-period", "checkpoint-period")?;
+    with_option(alloc, second, "--checkpoint-prefix", "checkpoint-prefix")
+}
+
+/// The command with the options of a run.
+fn with_run_options<'a>(alloc: Global, command: Command<'a>) -> Result<Command<'a>, AllocError>
+    ensures { IfOk result (λ r. app_of r ≡ run_app (app_of command.entry)) }
+{
+    let first = with_option(alloc, command, "--stop-at", "stop-at")?;
+    let second = with_spread(alloc, first)?;
+    let third = with_option(alloc, second, "--stats", "stats")?;
+    let fourth = with_option(alloc, third, "--sync-report", "sync-report")?;
+    with_checkpoints(alloc, fourth)
+}
+
 fn command_for<'a>(alloc: Global, command: crate::Command) -> Result<Command<'a>, AllocError>
     ensures { IfOk result (λ r. app_of r ≡ app_for command) }
 {
-    let graph = graph_command(alloc)?;
+    let bare = argument_command(alloc)?;
     match command {
-        crate::Command::Run => {
-            let first = with_option(alloc, graph, "--stop-at", "stop-at")?;
-            let second = with_spread(alloc, first)?;
-            let third = with_option(alloc, second, "--stats", "stats")?;
-            with_option(alloc, third, "--sync-report", "sync-report")
-        }
-        crate::Command::Check => Ok(graph),
+        crate::Command::Run | crate::Command::Restart => with_run_options(alloc, bare),
+        crate::Command::Check => Ok(bare),
         crate::Command::Partition => {
-            let first = with_option(alloc, graph, "--parts", "parts")?;
+            let first = with_option(alloc, bare, "--parts", "parts")?;
             with_option(alloc, first, "--partitioner", "partitioner")
         }
     }

@@ -1,35 +1,49 @@
 -- How a call ends, from how its parts end.
-use Rattle.std.proofs.Common.{◌≡◌, ℕ, ◌+◌, ◌<◌, ◌≤◌, List, [], ◌∷◌, ◌++◌, map, length, Option, Some, None, Ok, Err, Result, Bool, true, false, refl, ap, sym, ◌∙◌, subst, arith, inl, inr, ◌⊎◌, append_assoc, nat_lt}
-use Rattle.std.proofs.lemmas.List.{map-append}
+use Rattle.std.proofs.Common.{◌≡◌, ℕ, ◌+◌, ◌<◌, ◌≤◌, List, [], ◌∷◌, ◌++◌, length, Option, Some, None, Ok, Err, Result, Bool, true, false, refl, ap, sym, ◌∙◌, subst, arith, inl, inr, ◌⊎◌, nat_lt}
 use Rattle.std.proofs.lemmas.Bool.Decides.{nat_tests}
 use Rattle.std.specs.Ordering.{nat_cmp, eq_by_cmp, is_eq}
 use Rattle.std.specs.Cmp.{tied_itself}
 use Rattle.std.specs.Cmp.Lexicographic.{slice_cmp, nat_list_cmp_total}
 use Rattle.std.specs.FinMap.{empty, get, insert, get-insert}
-use Rattle.std.proofs.Common.{cond}
-use Rattle.ss_top.specs.Message.{message_text, fault_line, limit_line}
-use Rattle.ss_top.specs.declared.print.Message.TheVariants as message
-use Rattle.ss_edge.specs.Edge.{Contents, more, Kept, Rose, TookSome, with_entry}
+use Rattle.std.proofs.Common.{cond, append-nil}
+use Rattle.std.specs.List.{All}
+use Rattle.ss_safe.specs.Kept.Found.{none_some, some_same}
+use Rattle.ss_wire.specs.Wire.{IsBytes}
+use Rattle.ss_edge.specs.Edge.{Contents, more, Kept as KeptCount, Rose, TookSome}
 use Rattle.ss_cmd.specs.declared.Plan.{Plan}
 use Rattle.ss_cmd.specs.declared.Usage.{Usage}
 use Rattle.ss_cmd.specs.declared.Usage.TheVariants as usage
 use Rattle.ss_cmd.specs.Grammar.{plan_by}
-use Rattle.ss_graph.specs.Judge.{graph_of}
+use Rattle.ss_ckpt.specs.declared.fault.CkptFault.{CkptFault}
+use Rattle.ss_ckpt.specs.declared.fault.CkptFault.TheVariants as form
+use Rattle.ss_restart.specs.declared.fault.RestartFault.{RestartFault}
+use Rattle.ss_restart.specs.declared.fault.RestartFault.TheVariants as state
+use Rattle.ss_graph.specs.declared.graph.Graph.{Graph}
+use Rattle.ss_graph.specs.declared.fault.LimitKind.{LimitKind}
 use Rattle.ss_graph.specs.declared.fault.LimitKind.TheVariants as limit
-use Rattle.ss_top.specs.Judge.{Judged, not_text, at_fault, past_limit, accepted, judge}
-use Rattle.ss_top.specs.Simulate.{judged_by, IsRefusal, status_of, line_of, TellsRefusal}
+use Rattle.ss_course.specs.Kept.{Kept}
+use Rattle.ss_printed.specs.Printed.{allowed, rest_in}
+use Rattle.ss_top.specs.Message.{message_text, fault_line, limit_line, misspelled_line, unsound_line}
+use Rattle.ss_top.specs.declared.print.Message.TheVariants as message
+use Rattle.ss_top.specs.Judge.{Judged, not_text, at_fault, past_limit, misspelled, unsound, accepted}
+use Rattle.ss_top.specs.Simulate.{judged_by, misspelled_by, unsound_by, IsRefusal, status_of, line_of, cuts_by, kept_by, stop_of, closing_by, doing_by, puts_by, Closes, IsPrinted}
+use Rattle.ss_top.specs.declared.printed.End.{End}
+use Rattle.ss_top.specs.declared.printed.End.TheVariants as end
+use Rattle.ss_top.specs.declared.printed.Printed.{Printed}
 use Rattle.ss_top.specs.declared.refusal.Refusal.{Refusal}
 use Rattle.ss_top.specs.declared.refusal.Refusal.TheVariants as refusal
-use Rattle.ss_top.specs.Answer.{Step, write, put, Answer, Answers, Asks, AsksOf, AnswersPlan, AnswersPlanned, AsksPlanned, AnswersEntry, AnswersBytes, AnswersSized, AnswersText, AnswersJudged, graph_name, usage_text, usage_line, usage_status, put_of, line, whole, most_graph}
+use Rattle.ss_top.specs.Answer.{Step, write, put, Answer, Answers, Asks, AsksOf, AnswersPlan, AnswersPlanned, AsksPlanned, AnswersEntry, AnswersBytes, AnswersSized, AnswersRead, entry_name, usage_text, usage_line, usage_status, line, ran, limited, whole, most_of, size_limit}
 use Rattle.ss_top.specs.Answer as answer
+use Rattle.ss_top.specs.Printing.{Told}
 use Rattle.ss_top.specs.Reading.{Holds}
-use Rattle.ss_top.specs.Printing.{Told, more_all}
-use Rattle.ss_top.specs.Writing.{Writes, Puts, Unput, with_all, EndsText}
-use Rattle.ss_top.specs.Left.{Working, Leaves, LeavesAccepted, LeavesEntry, LeavesPlan}
+use Rattle.ss_top.specs.Writing.{EndsAs}
+use Rattle.ss_top.specs.Doing.{Doing, Done, FailsIn, StarvesIn, EndsIn, acts_in, closed_by, closing, doing, listing, next_to}
+use Rattle.ss_top.specs.Left.{Working, Leaves, LeavesRead, LeavesEntry, LeavesPlan}
 use Rattle.ss_top.specs.Spreading.{too_many_threads}
 use Rattle.ss_top.specs.Headline.{Outside, Seen, seen, Stands, after_step, after_steps, InPart, ErrTook, Blames, Given, Unwritten, Reached, EndsBy, Ends}
 use Rattle.ss_top.specs.declared.Status.{Status}
 use Rattle.ss_top.specs.declared.Status.TheVariants as status
+use Rattle.ss_top.proofs.Doings.{AreDone, IsCutShort, cuts_done, cuts_cut_short, ran_steps}
 use Rattle.ss_top.proofs.Taking.{more-nothing, rose-first}
 
 -- ---- entries that a shelf may hold
@@ -58,170 +72,194 @@ pub get-known : (o : Option Contents) (name bytes : List ℕ) → Holds o name b
 get-known None name bytes h = get-insert nat_list_cmp_total empty name bytes name ∙ ap (λ b. cond b (Some bytes) (get (empty {X = List ℕ} {R = slice_cmp nat_cmp}) name)) (itself name)
 get-known (Some m) name bytes h = h
 
--- ---- writes as steps
+-- ---- steps
 
-abbrev outside_of : Option Contents → Option (List ℕ) → Outside
+abbrev pub outside_of : Option Contents → Option (List ℕ) → Outside
 outside_of held out = record { held = held; out = out }
 
-writes_done : (ts : List (List ℕ)) (held : Option Contents) (o : Option (List ℕ)) → after_steps (map write ts) (outside_of held o) ≡ outside_of held (more_all ts o)
-writes_done [] held o = refl
-writes_done (t ∷ ts) held o = writes_done ts held (more t o)
-
-steps-append : (xs ys : List Step) (o : Outside) → after_steps (xs ++ ys) o ≡ after_steps ys (after_steps xs o)
+pub steps-append : (xs ys : List Step) (o : Outside) → after_steps (xs ++ ys) o ≡ after_steps ys (after_steps xs o)
 steps-append [] ys o = refl
 steps-append (x ∷ xs) ys o = steps-append xs ys (after_step x o)
 
--- ---- the answer to a text
+-- ---- what a call comes to
 
-as_text : (p : Plan) (bytes : List ℕ) (a : Answer) → AnswersJudged p (graph_of bytes) (judge bytes) a → AnswersText p bytes a
-unfolding AnswersText
-as_text p bytes a h = h
+never-misspelled : (f : CkptFault) → misspelled_by f ≡ Some accepted → ⊥
+never-misspelled form.Magic e = cc
+never-misspelled form.Form e = cc
+never-misspelled (form.Short at) e = cc
+never-misspelled (form.Value at) e = cc
+never-misspelled (form.Order at) e = cc
+never-misspelled (form.Trailing at) e = cc
+never-misspelled form.NoMemory e = cc
+
+never-unsound : (f : RestartFault) → unsound_by f ≡ Some accepted → ⊥
+never-unsound (state.Element c) e = cc
+never-unsound (state.Payload i) e = cc
+never-unsound (state.Time i) e = cc
+never-unsound (state.Tick n) e = cc
+never-unsound (state.Unbalanced l ch) e = cc
+never-unsound state.NoMemory e = cc
 
 never : (r : Refusal) → judged_by r ≡ Some accepted → ⊥
 never refusal.NotText e = cc
 never (refusal.Graph f place) e = cc
 never refusal.SharedParams e = cc
 never (refusal.Limit k n) e = cc
+never (refusal.Misspelled f) e = never-misspelled f e
+never (refusal.Unsound f) e = never-unsound f e
 never refusal.NoMemory e = cc
 
-module _ (p : Plan) (bytes : List ℕ) (workers : List Working) (told : Option Contents) (reads puts : List ℕ → ℕ) (out out' : Option (List ℕ)) (outs outs' : ℕ) (err err' : Option (List ℕ)) (errs errs' : ℕ) where
-  abbrev at_first : Seen
-  at_first = seen told reads puts out outs err errs
-
-  abbrev at_last : Seen
-  at_last = seen told reads puts out' outs' err' errs'
-
-  refused : (s : Status) (text : List ℕ) → AnswersJudged p (graph_of bytes) (judge bytes) (answer.refusal s text) → out' ≡ out → Told (line text) err err' errs errs' → Given (λ held a. AnswersText p bytes a) at_first at_last s
+module _ (answers : Answer → Type 0) (leaves : Type 0) (old new : Seen) where
+  -- it was refused
+  refused : (s : Status) (text : List ℕ) → answers (answer.refusal s text) → new.outside ≡ old.outside → ErrTook (line text) old new → Given (λ held a. answers a) old new s
   refused s text a same t = record {
-    held = anything told;
-    stands = stands-anything told;
+    held = anything old.outside.held;
+    stands = stands-anything old.outside.held;
     answer = answer.refusal s text;
-    answered = as_text p bytes (answer.refusal s text) a;
+    answered = a;
     status = refl;
-    done = ap (outside_of told) same;
+    done = same;
     err = t;
   }
 
-  nothing_ran : out' ≡ out → Told (line (message_text message.NoMemory)) err err' errs errs' → EndsText p bytes workers at_first at_last status.NoMemory
-  nothing_ran same t = record { so_far = inl (ap (outside_of told) same); err = t }
+  ended_by : (name : List ℕ) (o : Option Judged) → (o ≡ Some accepted → ⊥) → IsRefusal answers name o → new.outside ≡ old.outside → ErrTook (line_of name o) old new → EndsAs answers leaves old new (status_of o)
+  ended_by name None n h same t = record { so_far = inl same; err = t }
+  ended_by name (Some not_text) n h same t = refused status.Text (message_text message.NotText ++ name) h same t
+  ended_by name (Some (at_fault f place)) n h same t = refused status.Graph (fault_line f place) h same t
+  ended_by name (Some (past_limit k m)) n h same t = refused status.Limit (limit_line k m) h same t
+  ended_by name (Some (misspelled f)) n h same t = refused status.Checkpoint (misspelled_line f) h same t
+  ended_by name (Some (unsound f)) n h same t = refused status.Checkpoint (unsound_line f) h same t
+  ended_by name (Some accepted) n h same t = absurd (n refl)
 
-  ended_by : (o : Option Judged) → (o ≡ Some accepted → ⊥) → IsRefusal p (graph_of bytes) (judge bytes) o → out' ≡ out → Told (line_of (graph_name p) o) err err' errs errs' → EndsText p bytes workers at_first at_last (status_of o)
-  ended_by None n h same t = nothing_ran same t
-  ended_by (Some not_text) n h same t = refused status.Text (message_text message.NotText ++ graph_name p) h same t
-  ended_by (Some (at_fault f place)) n h same t = refused status.Graph (fault_line f place) h same t
-  ended_by (Some (past_limit k m)) n h same t = refused status.Limit (limit_line k m) h same t
-  ended_by (Some accepted) n h same t = absurd (n refl)
+  pub refusal_ended : (name : List ℕ) (r : Refusal) (s : Status) → IsRefusal answers name (judged_by r) → new.outside ≡ old.outside → s ≡ status_of (judged_by r) → ErrTook (line_of name (judged_by r)) old new → EndsAs answers leaves old new s
+  refusal_ended name r s h same e t = subst (λ (x : Status). EndsAs answers leaves old new x) (sym e) (ended_by name (judged_by r) (never r) h same t)
 
-  pub refusal_ended : (r : Refusal) (s : Status) → IsRefusal p (graph_of bytes) (judge bytes) (judged_by r) → out' ≡ out → TellsRefusal (graph_name p) r err err' errs errs' s → EndsText p bytes workers at_first at_last s
-  refusal_ended r s h same t = subst (λ (x : Status). EndsText p bytes workers at_first at_last x) (sym t.status) (ended_by (judged_by r) (never r) h same t.told)
-
-  -- the writing of the texts stopped
-  pub texts_stopped : (texts : List (List ℕ)) (ps : List (List ℕ × List ℕ)) (s : Status) → (s ≡ status.Whole → ⊥) → AnswersJudged p (graph_of bytes) (judge bytes) (whole texts ps) → Writes texts out out' outs outs' err err' errs errs' s → EndsText p bytes workers at_first at_last s
-  texts_stopped texts ps status.Whole n a w = absurd (n refl)
-  texts_stopped texts ps status.Usage n a w = absurd w
-  texts_stopped texts ps status.Text n a w = absurd w
-  texts_stopped texts ps status.Graph n a w = absurd w
-  texts_stopped texts ps status.Limit n a w = absurd w
-  texts_stopped texts ps status.ReadFault n a w = absurd w
-  texts_stopped texts ps status.WriteFault n a w = record {
-    held = anything told;
-    stands = stands-anything told;
-    answer = whole texts ps;
-    answered = as_text p bytes (whole texts ps) a;
-    whole = refl;
-    front = map write w.0.front;
-    step = write w.0.text;
-    rest = map write w.0.rest ++ map put_of ps;
-    steps = ap (λ ts. map write ts ++ map put_of ps) w.0.whole ∙ ap (λ ts. ts ++ map put_of ps) (map-append write w.0.front (w.0.text ∷ w.0.rest)) ∙ append_assoc (map write w.0.front) (write w.0.text ∷ map write w.0.rest) (map put_of ps);
-    part = subst (λ (x : Outside). InPart (write w.0.text) x (outside_of told out')) (sym (writes_done w.0.front told out)) (w.0.took, refl);
-    blamed = (w.1, w.2);
-  }
-  texts_stopped texts ps status.NoMemory n a w = nothing_ran w.0 w.1
-
-  -- the texts were written, and nothing is put
-  written : (texts : List (List ℕ)) → AnswersJudged p (graph_of bytes) (judge bytes) (whole texts []) → (out' ≡ more_all texts out) × (err' ≡ err) → Given (λ held a. AnswersText p bytes a) at_first at_last status.Whole
-  written texts a w = record {
-    held = anything told;
-    stands = stands-anything told;
-    answer = whole texts [];
-    answered = as_text p bytes (whole texts []) a;
-    status = refl;
-    done = ap (outside_of told) w.0 ∙ sym (steps-append (map write texts) [] (outside_of told out) ∙ writes_done texts told out);
-    err = inl (w.1 ∙ more-nothing err);
-  }
-
-  pub texts_ended : (texts : List (List ℕ)) (s : Status) → AnswersJudged p (graph_of bytes) (judge bytes) (whole texts []) → LeavesAccepted p (graph_of bytes) workers → Writes texts out out' outs outs' err err' errs errs' s → EndsText p bytes workers at_first at_last s
-  texts_ended texts status.Whole a left w = record { given = written texts a w; left = left }
-  texts_ended texts status.Usage a left w = absurd w
-  texts_ended texts status.Text a left w = absurd w
-  texts_ended texts status.Graph a left w = absurd w
-  texts_ended texts status.Limit a left w = absurd w
-  texts_ended texts status.ReadFault a left w = absurd w
-  texts_ended texts status.WriteFault a left w = texts_stopped texts [] status.WriteFault (λ e. cc) a w
-  texts_ended texts status.NoMemory a left w = nothing_ran w.0 w.1
-
--- ---- puts behind texts
-
-puts_done : (ps : List (List ℕ × List ℕ)) (held o : Option Contents) (out : Option (List ℕ)) → o ≡ with_all ps held → after_steps (map put_of ps) (outside_of held out) ≡ outside_of o out
-puts_done [] held o out h = ap (λ x. outside_of x out) (sym h)
-puts_done (q ∷ qs) held o out h = puts_done qs (with_entry q.0 q.1 held) o out h
-
-module _ (p : Plan) (bytes : List ℕ) (workers : List Working) (told told' : Option Contents) (reads reads' puts puts' : List ℕ → ℕ) (out out' : Option (List ℕ)) (outs outs' : ℕ) (err mid err' : Option (List ℕ)) (errs errs_mid errs' : ℕ)
-    (texts : List (List ℕ)) (written : out' ≡ more_all texts out) (quiet : mid ≡ err) (rising : errs ≤ errs_mid) (rising' : errs_mid ≤ errs') where
-  abbrev at_start : Seen
-  at_start = seen told reads puts out outs err errs
-
-  abbrev at_end : Seen
-  at_end = seen told' reads' puts' out' outs' err' errs'
-
-  told_since : (text : List ℕ) → Told (line text) mid err' errs_mid errs' → ErrTook (line text) at_start at_end
-  told_since text (inl e) = inl (e ∙ ap (more (line text)) quiet)
-  told_since text (inr (r, t)) = inr (rose-first errs errs_mid errs' errs' rising rising' (omega arith) r, subst (λ (x : Option (List ℕ)). TookSome (line text) x err') quiet t)
-
-  put_in_part : (ps : List (List ℕ × List ℕ)) → AnswersJudged p (graph_of bytes) (judge bytes) (whole texts ps) → Unput ps told told' puts puts' mid err' errs_mid errs' → EndsText p bytes workers at_start at_end status.WriteFault
-  put_in_part ps a h = record {
-    held = anything told;
-    stands = stands-anything told;
-    answer = whole texts ps;
-    answered = as_text p bytes (whole texts ps) a;
-    whole = refl;
-    front = map write texts ++ map put_of h.front;
-    step = put h.failed.0 h.failed.1;
-    rest = map put_of h.rest;
-    steps = ap (λ qs. map write texts ++ map put_of qs) h.whole ∙ ap (λ qs. map write texts ++ qs) (map-append put_of h.front (h.failed ∷ h.rest)) ∙ sym (append_assoc (map write texts) (map put_of h.front) (put_of h.failed ∷ map put_of h.rest));
-    part = subst (λ (x : Outside). InPart (put h.failed.0 h.failed.1) x (outside_of told' out'))
-        (sym (steps-append (map write texts) (map put_of h.front) (outside_of told out) ∙ ap (after_steps (map put_of h.front)) (writes_done texts told out) ∙ puts_done h.front told (with_all h.front told) (more_all texts out) refl))
-        (h.partly, written);
-    blamed = (h.rose, told_since (message_text message.WriteFault ++ h.failed.0) h.told);
-  }
-
-  pub texts_put : (ps : List (List ℕ × List ℕ)) (s : Status) → AnswersJudged p (graph_of bytes) (judge bytes) (whole texts ps) → LeavesAccepted p (graph_of bytes) workers → Puts ps told told' puts puts' mid err' errs_mid errs' s → EndsText p bytes workers at_start at_end s
-  texts_put ps status.Whole a left h = record {
+  -- all was done
+  pub done_whole : (a : Answer) (d : Doing) → answers a → a.status ≡ status.Whole → a.err ≡ [] → d.steps ≡ a.steps → Done d old new → leaves → EndsAs answers leaves old new status.Whole
+  done_whole a d h s e same k left = record {
     given = record {
-      held = anything told;
-      stands = stands-anything told;
-      answer = whole texts ps;
-      answered = as_text p bytes (whole texts ps) a;
-      status = refl;
-      done = ap (outside_of told') written ∙ sym (steps-append (map write texts) (map put_of ps) (outside_of told out) ∙ ap (after_steps (map put_of ps)) (writes_done texts told out) ∙ puts_done ps told told' (more_all texts out) h.0);
-      err = inl (h.1 ∙ quiet ∙ more-nothing err);
+      held = anything old.outside.held;
+      stands = stands-anything old.outside.held;
+      answer = a;
+      answered = h;
+      status = s;
+      done = k.done ∙ ap (λ xs. after_steps xs old.outside) same;
+      err = subst (λ (x : List ℕ). ErrTook x old new) (sym e) (inl (k.quiet ∙ more-nothing old.err));
     };
     left = left;
   }
-  texts_put ps status.Usage a left h = absurd h
-  texts_put ps status.Text a left h = absurd h
-  texts_put ps status.Graph a left h = absurd h
-  texts_put ps status.Limit a left h = absurd h
-  texts_put ps status.ReadFault a left h = absurd h
-  texts_put ps status.WriteFault a left h = put_in_part ps a h
-  texts_put ps status.NoMemory a left h = absurd h
+
+  -- a limit ended it
+  pub done_limited : (a : Answer) (d : Doing) (l : LimitKind × ℕ) → answers a → a.status ≡ status.Limit → a.err ≡ line (limit_line l.0 l.1) → d.steps ≡ a.steps → new.outside ≡ after_steps d.steps old.outside → ErrTook (line (limit_line l.0 l.1)) old new → EndsAs answers leaves old new status.Limit
+  done_limited a d l h s e same k t = record {
+    held = anything old.outside.held;
+    stands = stands-anything old.outside.held;
+    answer = a;
+    answered = h;
+    status = s;
+    done = k ∙ ap (λ xs. after_steps xs old.outside) same;
+    err = subst (λ (x : List ℕ). ErrTook x old new) (sym e) t;
+  }
+
+  -- a step failed, or memory was wanting between two
+  pub done_in_part : (a : Answer) (steps : List Step) → answers a → (a.status ≡ status.Whole) ⊎ (a.status ≡ status.Limit) → steps ≡ a.steps → FailsIn steps old new → EndsAs answers leaves old new status.WriteFault
+  done_in_part a steps h s same f = record {
+    held = anything old.outside.held;
+    stands = stands-anything old.outside.held;
+    answer = a;
+    answered = h;
+    some = s;
+    front = f.front;
+    step = f.step;
+    rest = f.rest;
+    steps = sym same ∙ f.steps;
+    part = f.part;
+    blamed = f.blamed;
+  }
+
+  pub done_starved : (a : Answer) (steps : List Step) → answers a → steps ≡ a.steps → StarvesIn steps old new → EndsAs answers leaves old new status.NoMemory
+  done_starved a steps h same f = record {
+    so_far = inr (record {
+      held = anything old.outside.held;
+      stands = stands-anything old.outside.held;
+      answer = a;
+      answered = h;
+      front = f.front;
+      rest = f.rest;
+      steps = sym same ∙ f.steps;
+      done = f.done;
+    });
+    err = f.err;
+  }
+
+  -- what a call did that comes to an answer without a limit
+  whole_ended : (a : Answer) (d : Doing) → answers a → a.status ≡ status.Whole → a.err ≡ [] → d.steps ≡ a.steps → d.stop ≡ None → (All IsBytes d.kept → leaves) → (s : Status) → EndsIn d old new s → EndsAs answers leaves old new s
+  whole_ended a d h s e same n left status.Whole k = done_whole a d h s e same k.0 (left k.0.bytes)
+  whole_ended a d h s e same n left status.Usage k = absurd k
+  whole_ended a d h s e same n left status.Text k = absurd k
+  whole_ended a d h s e same n left status.Graph k = absurd k
+  whole_ended a d h s e same n left status.Limit k = absurd (none_some (sym n ∙ k.1))
+  whole_ended a d h s e same n left status.Checkpoint k = absurd k
+  whole_ended a d h s e same n left status.ReadFault k = absurd k
+  whole_ended a d h s e same n left status.WriteFault k = done_in_part a d.steps h (inl s) same k
+  whole_ended a d h s e same n left status.NoMemory k = done_starved a d.steps h same k
+
+  -- and one that a limit ends
+  limited_ended : (a : Answer) (d : Doing) (l : LimitKind × ℕ) → answers a → a.status ≡ status.Limit → a.err ≡ line (limit_line l.0 l.1) → d.steps ≡ a.steps → d.stop ≡ Some l → (s : Status) → EndsIn d old new s → EndsAs answers leaves old new s
+  limited_ended a d l h s e same n status.Whole k = absurd (none_some (sym k.1 ∙ n))
+  limited_ended a d l h s e same n status.Usage k = absurd k
+  limited_ended a d l h s e same n status.Text k = absurd k
+  limited_ended a d l h s e same n status.Graph k = absurd k
+  limited_ended a d l h s e same n status.Limit k =
+      let is : k.0 ≡ l = some_same (sym k.1 ∙ n) in
+      done_limited a d l h s e same k.2 (subst (λ (x : LimitKind × ℕ). ErrTook (line (limit_line x.0 x.1)) old new) is k.3)
+  limited_ended a d l h s e same n status.Checkpoint k = absurd k
+  limited_ended a d l h s e same n status.ReadFault k = absurd k
+  limited_ended a d l h s e same n status.WriteFault k = done_in_part a d.steps h (inr s) same k
+  limited_ended a d l h s e same n status.NoMemory k = done_starved a d.steps h same k
+
+  pub listed_ended : (texts : List (List ℕ)) (s : Status) → answers (whole texts) → leaves → EndsIn (listing texts) old new s → EndsAs answers leaves old new s
+  listed_ended texts s h left k = whole_ended (whole texts) (listing texts) h refl refl refl refl (λ b. left) s k
+
+  -- ---- runs
+
+  module _ (g : Graph) (p : Printed) where
+    abbrev cuts_doing : Doing
+    cuts_doing = doing p.prefix g 0 (acts_in (cuts_by p))
+
+    -- it came to its end
+    closed : (e : End) → Closes answers leaves g p e → AreDone p.prefix (kept_by g p) (rest_in [] (cuts_by p)) cuts_doing → (s : Status) → EndsIn (next_to cuts_doing (closing_by e)) old new s → EndsAs answers leaves old new s
+    closed end.Stopped h d s k = absurd h
+    closed (end.Complete time sheets) h d s k =
+        let a : Answer = ran p.prefix (kept_by g p) (rest_in [] (cuts_by p)) time (puts_by sheets.items) in
+        let both : Doing = record { steps = cuts_doing.steps ++ (closing time (puts_by sheets.items)).steps; kept = cuts_doing.kept ++ []; stop = None } in
+        let is : next_to cuts_doing (closing time (puts_by sheets.items)) ≡ both = ap (λ (o : Option (LimitKind × ℕ)). closed_by o cuts_doing (closing time (puts_by sheets.items))) d.stop in
+        whole_ended a both h.0 refl refl
+        (ran_steps p.prefix (kept_by g p) (rest_in [] (cuts_by p)) time (puts_by sheets.items) cuts_doing.steps d.steps) refl
+        (λ b. h.1 (subst (λ (l : List (List ℕ)). All IsBytes l) (append-nil cuts_doing.kept ∙ d.kept) b)) s
+        (subst (λ (x : Doing). EndsIn x old new s) is k)
+
+    over : (next : Kept) (what : LimitKind) (n : ℕ) → answers (limited p.prefix (allowed 0 (kept_by g p)) next.lines what n) → IsCutShort p.prefix (allowed 0 (kept_by g p)) next.lines (what, n) cuts_doing → (e : End) (s : Status) → EndsIn (next_to cuts_doing (closing_by e)) old new s → EndsAs answers leaves old new s
+    over next what n h d e s k =
+        let is : next_to cuts_doing (closing_by e) ≡ cuts_doing = ap (λ (o : Option (LimitKind × ℕ)). closed_by o cuts_doing (closing_by e)) d.stop in
+        limited_ended (limited p.prefix (allowed 0 (kept_by g p)) next.lines what n) cuts_doing (what, n) h refl refl d.steps d.stop s
+        (subst (λ (x : Doing). EndsIn x old new s) is k)
+
+    by_stop : (o : Option (Kept × (LimitKind × ℕ))) → stop_of g p ≡ o → (stop_of g p ≡ None → Closes answers leaves g p p.end) → ((next : Kept) (what : LimitKind) (n : ℕ) → stop_of g p ≡ Some (next, (what, n)) → answers (limited p.prefix (allowed 0 (kept_by g p)) next.lines what n))
+        → (s : Status) → EndsIn (doing_by g p) old new s → EndsAs answers leaves old new s
+    by_stop None e closes limits s k = closed p.end (closes e) (cuts_done p.prefix g (cuts_by p) e) s k
+    by_stop (Some x) e closes limits s k = over x.0 x.1.0 x.1.1 (limits x.0 x.1.0 x.1.1 e) (cuts_cut_short p.prefix g (cuts_by p) x.0 x.1 e) p.end s k
+
+  pub printed_ended : (p : Printed) (s : Status) → IsPrinted answers leaves p → EndsIn (doing_by p.run.value.graph p) old new s → EndsAs answers leaves old new s
+  printed_ended p s h k =
+      by_stop h.graph p (stop_of h.graph p) refl h.closes h.limits s (subst (λ (g : Graph). EndsIn (doing_by g p) old new s) h.is k)
 
 -- ---- what comes before an end
 
 module _ (answers answers' : Contents → Answer → Type 0) (asks asks' : List ℕ → Type 0) (leaves leaves' : Contents → Type 0) (old mid new : Seen) (held : Contents)
     (stands : Stands old.outside.held held) (answered : (h : Contents) (a : Answer) → answers h a → answers' held a) (left : (h : Contents) → leaves h → leaves' held) (nothing : (n : List ℕ) → asks n → ⊥)
     (same : mid.outside ≡ old.outside) (outs : mid.out_faults ≡ old.out_faults) (errs : mid.err_faults ≡ old.err_faults) (err : mid.err ≡ old.err)
-    (kept : Kept old.put_faults mid.put_faults) (kept' : Kept mid.put_faults new.put_faults) where
+    (kept : KeptCount old.put_faults mid.put_faults) (kept' : KeptCount mid.put_faults new.put_faults) where
   err_back : (text : List ℕ) → ErrTook text mid new → ErrTook text old new
   err_back text (inl e) = inl (e ∙ ap (more text) err)
   err_back text (inr (r, t)) = inr (subst (λ n. Rose n new.err_faults) errs r, subst (λ (x : Option (List ℕ)). TookSome text x new.err) err t)
@@ -239,7 +277,7 @@ module _ (answers answers' : Contents → Answer → Type 0) (asks asks' : List 
     stands = stands;
     answer = u.answer;
     answered = answered u.held u.answer u.answered;
-    whole = u.whole;
+    some = u.some;
     front = u.front;
     step = u.step;
     rest = u.rest;
@@ -258,6 +296,7 @@ module _ (answers answers' : Contents → Answer → Type 0) (asks asks' : List 
   ends_back status.Text g = given_back status.Text g
   ends_back status.Graph g = given_back status.Graph g
   ends_back status.Limit g = given_back status.Limit g
+  ends_back status.Checkpoint g = given_back status.Checkpoint g
   ends_back status.ReadFault u = absurd (nothing u.name u.asked)
   ends_back status.WriteFault u = unwritten_back u
   ends_back status.NoMemory u = record { so_far = so_far_back u.so_far; err = err_back _ u.err }
@@ -279,54 +318,55 @@ module _ (answers answers' : Contents → Answer → Type 0) (asks asks' : List 
   ends_goes status.Text g = given_goes status.Text g
   ends_goes status.Graph g = given_goes status.Graph g
   ends_goes status.Limit g = given_goes status.Limit g
+  ends_goes status.Checkpoint g = given_goes status.Checkpoint g
   ends_goes status.ReadFault u = record { name = u.name; asked = asked u.name u.asked; rose = u.rose; untouched = u.untouched; err = u.err }
-  ends_goes status.WriteFault u = record { held = u.held; stands = u.stands; answer = u.answer; answered = answered u.held u.answer u.answered; whole = u.whole; front = u.front; step = u.step; rest = u.rest; steps = u.steps; part = u.part; blamed = u.blamed }
+  ends_goes status.WriteFault u = record { held = u.held; stands = u.stands; answer = u.answer; answered = answered u.held u.answer u.answered; some = u.some; front = u.front; step = u.step; rest = u.rest; steps = u.steps; part = u.part; blamed = u.blamed }
   ends_goes status.NoMemory u = record { so_far = so_far_goes u.so_far; err = u.err }
 
 -- ---- an entry
 
 abbrev of_entry : Plan → Contents → Answer → Type 0
-of_entry p held a = AnswersEntry p (get held (graph_name p)) a
+of_entry p held a = AnswersEntry p (get held (entry_name p)) a
 
 abbrev is_named : List ℕ → List ℕ → Type 0
 is_named name n = n ≡ name
 
 abbrev leaves_of : Plan → List Working → Contents → Type 0
-leaves_of p workers held = LeavesEntry p (get held (graph_name p)) workers
+leaves_of p workers held = LeavesEntry p (get held (entry_name p)) workers
 
-sized : (p : Plan) (bytes : List ℕ) (a : Answer) → length bytes ≤ most_graph → AnswersText p bytes a → AnswersBytes p bytes a
-sized p bytes a h k = let small : nat_lt most_graph (length bytes) ≡ false = grind (arith, nat_tests) in subst (λ (b : Bool). AnswersSized p bytes b a) (sym small) k
+sized : (p : Plan) (bytes : List ℕ) (a : Answer) → length bytes ≤ most_of p → AnswersRead p bytes a → AnswersBytes p bytes a
+sized p bytes a h k = let small : nat_lt (most_of p) (length bytes) ≡ false = grind (arith, nat_tests) in subst (λ (b : Bool). AnswersSized p bytes b a) (sym small) k
 
-entered : (p : Plan) (bytes : List ℕ) (held : Contents) (a : Answer) → get held (graph_name p) ≡ Some bytes → AnswersBytes p bytes a → of_entry p held a
+entered : (p : Plan) (bytes : List ℕ) (held : Contents) (a : Answer) → get held (entry_name p) ≡ Some bytes → AnswersBytes p bytes a → of_entry p held a
 entered p bytes held a g k = subst (λ (o : Option (List ℕ)). AnswersEntry p o a) (sym g) k
 
-left_of : (p : Plan) (bytes : List ℕ) (workers : List Working) (held : Contents) → get held (graph_name p) ≡ Some bytes → LeavesAccepted p (graph_of bytes) workers → leaves_of p workers held
+left_of : (p : Plan) (bytes : List ℕ) (workers : List Working) (held : Contents) → get held (entry_name p) ≡ Some bytes → LeavesRead p bytes workers → leaves_of p workers held
 left_of p bytes workers held g k = subst (λ (o : Option (List ℕ)). LeavesEntry p o workers) (sym g) k
 
 module _ (p : Plan) (workers : List Working) (held held' held'' : Option Contents) (reads reads' reads'' puts puts' puts'' : List ℕ → ℕ) (out out' : Option (List ℕ)) (outs outs' : ℕ) (err err' : Option (List ℕ)) (errs errs' : ℕ) where
   -- the answer to an entry that was read
-  pub read_answered : (bytes b : List ℕ) (s : Status) → b ≡ bytes → Holds held (graph_name p) bytes → length bytes ≤ most_graph → held' ≡ held → Kept puts puts' → Kept puts' puts'' → EndsText p b workers (seen held' reads' puts' out outs err errs) (seen held'' reads'' puts'' out' outs' err' errs') s
-      → EndsBy (of_entry p) (is_named (graph_name p)) (leaves_of p workers) (seen held reads puts out outs err errs) (seen held'' reads'' puts'' out' outs' err' errs') s
-  read_answered bytes b s e holds small same kept kept' ends =
-      let name = graph_name p in
+  pub read_answered : (bytes : List ℕ) (s : Status) → Holds held (entry_name p) bytes → length bytes ≤ most_of p → held' ≡ held → KeptCount puts puts' → KeptCount puts' puts'' → EndsAs (AnswersRead p bytes) (LeavesRead p bytes workers) (seen held' reads' puts' out outs err errs) (seen held'' reads'' puts'' out' outs' err' errs') s
+      → EndsBy (of_entry p) (is_named (entry_name p)) (leaves_of p workers) (seen held reads puts out outs err errs) (seen held'' reads'' puts'' out' outs' err' errs') s
+  read_answered bytes s holds small same kept kept' ends =
+      let name = entry_name p in
       let h = known held name bytes in
-      ends_back (λ k a. AnswersText p bytes a) (of_entry p) (λ n. ⊥) (is_named name) (λ k. LeavesAccepted p (graph_of bytes) workers) (leaves_of p workers)
+      ends_back (λ k a. AnswersRead p bytes a) (of_entry p) (λ n. ⊥) (is_named name) (λ k. LeavesRead p bytes workers) (leaves_of p workers)
       (seen held reads puts out outs err errs) (seen held' reads' puts' out outs err errs) (seen held'' reads'' puts'' out' outs' err' errs')
       h (stands-known held name bytes) (λ k a t. entered p bytes h a (get-known held name bytes holds) (sized p bytes a small t)) (λ k l. left_of p bytes workers h (get-known held name bytes holds) l) (λ n f. f)
       (ap (λ x. outside_of x out) same) refl refl refl kept kept' s
-      (subst (λ (x : List ℕ). EndsText p x workers (seen held' reads' puts' out outs err errs) (seen held'' reads'' puts'' out' outs' err' errs') s) e ends)
+      ends
 
 module _ (p : Plan) (workers : List Working) (held held' : Option Contents) (reads reads' puts puts' : List ℕ → ℕ) (out out' : Option (List ℕ)) (outs outs' : ℕ) (err err' : Option (List ℕ)) (errs errs' : ℕ) where
-  large : (bytes : List ℕ) → most_graph < length bytes → AnswersBytes p bytes (answer.refusal status.Limit (limit_line limit.GraphBytes (most_graph + 1)))
-  large bytes h = let big : nat_lt most_graph (length bytes) ≡ true = grind (arith, nat_tests) in subst (λ (b : Bool). AnswersSized p bytes b (answer.refusal status.Limit (limit_line limit.GraphBytes (most_graph + 1)))) (sym big) refl
+  large : (bytes : List ℕ) → most_of p < length bytes → AnswersBytes p bytes (answer.refusal status.Limit (limit_line (size_limit p) (most_of p + 1)))
+  large bytes h = let big : nat_lt (most_of p) (length bytes) ≡ true = grind (arith, nat_tests) in subst (λ (b : Bool). AnswersSized p bytes b (answer.refusal status.Limit (limit_line (size_limit p) (most_of p + 1)))) (sym big) refl
 
-  pub read_large : (bytes : List ℕ) → most_graph < length bytes → Holds held (graph_name p) bytes → held' ≡ held → out' ≡ out → Told (line (limit_line limit.GraphBytes (most_graph + 1))) err err' errs errs'
-      → EndsBy (of_entry p) (is_named (graph_name p)) (leaves_of p workers) (seen held reads puts out outs err errs) (seen held' reads' puts' out' outs' err' errs') status.Limit
+  pub read_large : (bytes : List ℕ) → most_of p < length bytes → Holds held (entry_name p) bytes → held' ≡ held → out' ≡ out → Told (line (limit_line (size_limit p) (most_of p + 1))) err err' errs errs'
+      → EndsBy (of_entry p) (is_named (entry_name p)) (leaves_of p workers) (seen held reads puts out outs err errs) (seen held' reads' puts' out' outs' err' errs') status.Limit
   read_large bytes h holds same same' t = record {
-    held = known held (graph_name p) bytes;
-    stands = stands-known held (graph_name p) bytes;
-    answer = answer.refusal status.Limit (limit_line limit.GraphBytes (most_graph + 1));
-    answered = entered p bytes (known held (graph_name p) bytes) _ (get-known held (graph_name p) bytes holds) (large bytes h);
+    held = known held (entry_name p) bytes;
+    stands = stands-known held (entry_name p) bytes;
+    answer = answer.refusal status.Limit (limit_line (size_limit p) (most_of p + 1));
+    answered = entered p bytes (known held (entry_name p) bytes) _ (get-known held (entry_name p) bytes holds) (large bytes h);
     status = refl;
     done = ap (λ x. outside_of x out') same ∙ ap (outside_of held) same';
     err = t;
@@ -339,7 +379,7 @@ of_planned p o held a = AnswersPlanned p held o a
 
 module _ (p : Plan) (workers : List Working) (old new : Seen) where
   -- a plan with few enough threads answers as its entry does
-  pub threads_answered : (o : Option ℕ) (s : Status) → o ≡ None → EndsBy (of_entry p) (is_named (graph_name p)) (leaves_of p workers) old new s → EndsBy (of_planned p o) (AsksPlanned p o) (leaves_of p workers) old new s
+  pub threads_answered : (o : Option ℕ) (s : Status) → o ≡ None → EndsBy (of_entry p) (is_named (entry_name p)) (leaves_of p workers) old new s → EndsBy (of_planned p o) (AsksPlanned p o) (leaves_of p workers) old new s
   threads_answered o s e ends = subst (λ (x : Option ℕ). EndsBy (of_planned p x) (AsksPlanned p x) (leaves_of p workers) old new s) (sym e) ends
 
   -- one with too many is refused

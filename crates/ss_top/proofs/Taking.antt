@@ -1,5 +1,5 @@
 -- What a sink has taken of a text that is written in parts.
-use Rattle.std.proofs.Common.{◌≡◌, ℕ, ◌≤◌, List, [], ◌++◌, Option, Some, None, refl, ap, sym, ◌∙◌, subst, arith, append_assoc, inr}
+use Rattle.std.proofs.Common.{◌≡◌, ℕ, ◌≤◌, List, [], ◌∷◌, ◌++◌, Option, Some, None, refl, ap, sym, ◌∙◌, subst, arith, append_assoc, inl, inr}
 use Rattle.std.proofs.lemmas.List.{append-nil}
 use Rattle.ss_edge.specs.Edge.{more, TookSome, Rose}
 use Rattle.ss_top.specs.Answer.{line}
@@ -45,3 +45,35 @@ told-two f b t u o n k l e z h = subst (λ (x : List ℕ). Told (line x) o n k l
 
 pub told-at : (f b t : List ℕ) (o n : Option (List ℕ)) (k l : ℕ) → f ≡ t → b ≡ [] → Told (line (f ++ b)) o n k l → Told (line t) o n k l
 told-at f b t o n k l e z h = subst (λ (x : List ℕ). Told (line x) o n k l) (append-nil t) (told-two f b t [] o n k l e z h)
+
+-- ---- a text in any number of pieces
+
+-- it was told, by a sink whose count doesn't fall
+abbrev pub IsTelling : List ℕ → Option (List ℕ) → Option (List ℕ) → ℕ → ℕ → Type 0
+IsTelling text o n k l = Told text o n k l × (k ≤ l)
+
+pub tells_part : (a b : List ℕ) (o n : Option (List ℕ)) (k l : ℕ) → TookSome a o n → Rose k l → k ≤ l → IsTelling (a ++ b) o n k l
+tells_part a b o n k l t r h = (inr (r, took-first a b o n t), h)
+
+-- the last piece, which is written otherwise
+pub tells_last : (a b : List ℕ) (o n : Option (List ℕ)) (k l : ℕ) → b ≡ a → n ≡ more b o → k ≤ l → IsTelling a o n k l
+tells_last a b o n k l same e h = (inl (e ∙ ap (λ x. more x o) same), h)
+
+pub tells_last_part : (a b : List ℕ) (o n : Option (List ℕ)) (k l : ℕ) → b ≡ a → TookSome b o n → Rose k l → k ≤ l → IsTelling a o n k l
+tells_last_part a b o n k l same t r h = (inr (r, subst (λ (x : List ℕ). TookSome x o n) same t), h)
+
+-- a piece, and what was told behind it
+pub tells_then : (a b : List ℕ) (o p n : Option (List ℕ)) (j k l : ℕ) → p ≡ more a o → j ≤ k → IsTelling b p n k l → IsTelling (a ++ b) o n j l
+tells_then a b o p n j k l e h (inl f, g) = (inl (f ∙ ap (more b) e ∙ more-both a b o), omega (arith, h, g))
+tells_then a b o p n j k l e h (inr r, g) = (inr (rose-first j k l l h g (omega arith) r.0, took-then a b o p n e r.1), omega (arith, h, g))
+
+-- a line of five pieces, of which the first is written otherwise
+pub told_line : (t m a b c d : List ℕ) (o n : Option (List ℕ)) (k l : ℕ) → t ≡ m → IsTelling (t ++ (a ++ (b ++ (c ++ (d ++ 10 ∷ []))))) o n k l → Told (line (m ++ (a ++ (b ++ (c ++ d))))) o n k l
+told_line t m a b c d o n k l e h =
+    let pieces : m ++ (a ++ (b ++ (c ++ (d ++ 10 ∷ [])))) ≡ line (m ++ (a ++ (b ++ (c ++ d)))) =
+    sym (append_assoc m (a ++ (b ++ (c ++ d))) (10 ∷ []) ∙ ap (λ x. m ++ x) (append_assoc a (b ++ (c ++ d)) (10 ∷ []) ∙ ap (λ x. a ++ x) (append_assoc b (c ++ d) (10 ∷ []) ∙ ap (λ x. b ++ x) (append_assoc c d (10 ∷ []))))) in
+    subst (λ (x : List ℕ). Told x o n k l) (ap (λ x. x ++ (a ++ (b ++ (c ++ (d ++ 10 ∷ []))))) e ∙ pieces) h.0
+
+-- told to a sink that was as before
+pub told-since : (text : List ℕ) (o p n : Option (List ℕ)) (j k l : ℕ) → p ≡ o → k ≡ j → Told text p n k l → Told text o n j l
+told-since text o p n j k l e f h = subst (λ m. Told text o n m l) f (subst (λ (q : Option (List ℕ)). Told text q n k l) e h)

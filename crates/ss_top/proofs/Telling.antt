@@ -1,13 +1,13 @@
 -- The statistics that a run leaves tell that its packets came in order.
-use Rattle.std.proofs.Common.{◌≡◌, ℕ, zero, suc, ◌+◌, ◌≤◌, ◌<◌, ◌^◌, Bool, true, false, not, ◌&&◌, ◌||◌, cond, max, nat_lt, take, List, [], ◌∷◌, length, Option, Some, None, IfSome, is_some, option_map, refl, sym, ap, ◌∙◌, subst, arith}
-use Rattle.std.specs.Prelude.{slice_get, codes, bytes_eq, ◌==◌}
+use Rattle.std.proofs.Common.{◌≡◌, ℕ, zero, suc, ◌+◌, ◌≤◌, ◌<◌, ◌^◌, Bool, true, false, not, ◌&&◌, ◌||◌, cond, nat_lt, take, List, [], ◌∷◌, length, Option, Some, None, is_some, option_map, refl, sym, ap, ◌∙◌, subst, arith}
+use Rattle.std.specs.Prelude.{slice_get, codes, bytes_eq}
 use Rattle.std.specs.List.{position_or_len}
 use Rattle.std.proofs.lemmas.Slice.Eq.{bytes_eq-Decides}
 use Rattle.std.proofs.lemmas.Bool.Decides.{nat_tests}
 use Rattle.ss_safe.specs.Kept.Found.{some_same, none_some}
 use Rattle.ss_model.specs.Wiring.{Wiring}
 use Rattle.ss_model.specs.Step.{opening}
-use Rattle.ss_model.specs.End.{IsBound}
+use Rattle.ss_model.specs.End.{Limits, IsBound, IsRun}
 use Rattle.ss_stats.specs.declared.set.Stat.{Stat}
 use Rattle.ss_stats.specs.declared.set.Stat.TheVariants as stat
 use Rattle.ss_stats.specs.Set.{Entry, place_of}
@@ -35,25 +35,28 @@ use Rattle.ss_library.specs.Stats.{empty_by, empty_stat, empty_stats, has_bins, 
 use Rattle.ss_library.specs.Order.{PacketsStayInOrder}
 use Rattle.ss_library.proofs.Members.{get_map, passed_at}
 use Rattle.ss_library.proofs.Naming.{holds_by, no_fault, checked}
-use Rattle.ss_top.specs.Judge.{elements, limits_of, stop_by, RunsTo}
+use Rattle.ss_library.specs.Kinds.{any_kind}
+use Rattle.ss_library.specs.Meaning.{any_meaning}
+use Rattle.ss_run.specs.declared.Origin.TheVariants as origin
+use Rattle.ss_course.specs.Course.{limits}
+use Rattle.ss_cmd.specs.declared.RunOptions.{RunOptions}
+use Rattle.ss_cmd.specs.Grammar.{AreInRange}
+use Rattle.ss_top.specs.Asked.{course_of}
+use Rattle.ss_top.specs.Judge.{elements, limits_of, stop_by}
+use Rattle.ss_top.proofs.Fitting.{bound_within, max_most, max_zero, stop_early}
 use Rattle.ss_top.specs.Tells.{AsksFor, delivered_by, TellsOf, StatisticsTellOrder}
 
 -- ---- the end of a run
 
-stop_early : (g : Graph) (asked : Option ℕ) → IsFit g → IfSome asked (λ t. t ≤ 2 ^ 62) → stop_by asked g.options.stop_at ≤ 2 ^ 62
-stop_early g None fit early = fit.stop_at
-stop_early g (Some t) fit early = least (t == 0) early
-  where
-    least : (b : Bool) → t ≤ 2 ^ 62 → cond b (2 ^ 62) t ≤ 2 ^ 62
-    least true h = omega arith
-    least false h = h
-
-max_zero : (n : ℕ) → n ≤ 2 ^ 62 → max n 0 ≤ 2 ^ 62
-max_zero n h = grind (arith, h)
+-- the limits of a run from the start
+limits_same : (g : Graph) (o : RunOptions) → limits any_kind any_meaning (course_of g origin.Start o) ≡ limits_of g o.stop_at
+limits_same g o = ap (λ n. record { origin = 0; stop = n; exit = g.options.exit_period }) (max_zero (stop_by o.stop_at g.options.stop_at))
 
 bound_early : (g : Graph) (asked : Option ℕ) (agreed : Bool) (q : ℕ) → stop_by asked g.options.stop_at ≤ 2 ^ 62 → IsBound elements (model_of g).wires (limits_of g asked) (opening (model_of g).elements) agreed q → q ≤ 2 ^ 62
-bound_early g asked true q early b = let w = b.asked.within in let m = max_zero _ early in omega (arith, w, m)
-bound_early g asked false q early b = let e = b.0 in let m = max_zero _ early in omega (arith, e, m)
+bound_early g asked agreed q early b =
+    let w = bound_within elements (model_of g).wires (limits_of g asked) (opening (model_of g).elements) agreed q b in
+    let m = max_most (stop_by asked g.options.stop_at) 0 (2 ^ 62) early (omega arith) in
+    omega (arith, w, m)
 
 -- ---- the beginning
 
@@ -168,17 +171,18 @@ components_pass : (g : Graph) → first_fault (make_checks g) ≡ None → first
 unfolding make_checks
 components_pass g h = (no_fault (first_fault (components_checks g.components)) _ (sym (first_fault_append (components_checks g.components) _) ∙ h)).0
 
-pub statistics_tell_order : (g : Graph) (asked : Option ℕ) → first_fault (make_checks g) ≡ None → IsFit g → IfSome asked (λ t. t ≤ 2 ^ 62) → PacketsStayInOrder g (model_of g) → StatisticsTellOrder g asked
-unfolding RunsTo PacketsStayInOrder
-statistics_tell_order g asked checks fit early order texts left h =
-    let o = h.outcome in
-    let until = h.run.until in
-    let bound = bound_early g asked o.agreed o.bound (stop_early g asked fit early) h.run.bound in
-    let kept = order o.bound o.steps o.steps bound until (omega arith) in
+pub statistics_tell_order : (g : Graph) (o : RunOptions) → first_fault (make_checks g) ≡ None → IsFit g → AreInRange o → PacketsStayInOrder g (model_of g) → StatisticsTellOrder g o
+unfolding PacketsStayInOrder
+statistics_tell_order g o checks fit range order ks rest time left h =
+    let x = h.outcome in
+    let run : IsRun elements (model_of g).wires (limits_of g o.stop_at) (opening (model_of g).elements) x = subst (λ (l : Limits). IsRun elements (model_of g).wires l (opening (model_of g).elements) x) (limits_same g o) h.is in
+    let until = run.until in
+    let bound = bound_early g o.stop_at x.agreed x.bound (stop_early g o.stop_at fit range.stop_at) run.bound in
+    let kept = order x.bound x.steps x.steps bound until (omega arith) in
     record {
-      outcome = o;
-      run = h.run;
-      each = λ c p e x there is at.
-          told_by (wiring_of g) (members_of g) c p e x (delivered_by (model_of g) c o.steps) (kind_named p.kind) (passed_at g.components c p (components_pass g checks) there).rest is
-          (kept.stored c x (begun (wiring_of g) (members_of g) c p) (ap (λ (xs : List Any). slice_get xs c) (sym h.leaves) ∙ at) (begun_there (wiring_of g) (members_of g) 0 c c g.components p (omega arith) there));
+      outcome = x;
+      run = run;
+      each = λ c p e y there is at.
+          told_by (wiring_of g) (members_of g) c p e y (delivered_by (model_of g) c x.steps) (kind_named p.kind) (passed_at g.components c p (components_pass g checks) there).rest is
+          (kept.stored c y (begun (wiring_of g) (members_of g) c p) (ap (λ (xs : List Any). slice_get xs c) (sym h.left) ∙ at) (begun_there (wiring_of g) (members_of g) 0 c c g.components p (omega arith) there));
     }

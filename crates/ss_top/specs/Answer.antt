@@ -1,7 +1,7 @@
 -- What a call answers: a definition over the words and the entries alone.
-use Rattle.std.specs.Prelude.{ℕ, ◌^◌, ◌==◌, slice_index, unwrap_or, ◌+◌, ◌≡◌, List, [], ◌∷◌, ◌++◌, length, map, nat_lt, if◌then◌else◌, Option, Some, None, Result, Ok, Err, codes, decimal, Bool, true, false}
+use Rattle.std.specs.Prelude.{ℕ, ◌^◌, ◌==◌, slice_index, unwrap_or, ◌+◌, ◌≡◌, List, [], ◌∷◌, ◌++◌, ◌⊎◌, length, map, flat_map, nat_lt, if◌then◌else◌, Option, Some, None, Result, Ok, Err, codes, decimal, Bool, true, false}
 use Rattle.std.specs.FinMap.{get}
-use Rattle.ss_top.specs.Message.{message_text, fault_line, limit_line}
+use Rattle.ss_top.specs.Message.{message_text, fault_line, limit_line, misspelled_line, unsound_line}
 use Rattle.ss_top.specs.declared.print.Message.TheVariants as message
 use Rattle.ss_edge.specs.Edge.{Contents}
 use Rattle.ss_cmd.specs.declared.Plan.{Plan}
@@ -19,14 +19,26 @@ use Rattle.ss_part.specs.declared.PartFault.TheVariants as part_fault
 use Rattle.ss_part.specs.Assigned.{assigned, refusal as undivided}
 use Rattle.ss_part.specs.Cut.{cut}
 use Rattle.ss_stats.specs.Text.{head, set_rows}
+use Rattle.ss_model.specs.declared.Line.{Line}
+use Rattle.ss_model.specs.End.{text_of, final_line}
+use Rattle.ss_run.specs.declared.Origin.{Origin}
+use Rattle.ss_run.specs.declared.Origin.TheVariants as origin
 use Rattle.ss_library.specs.declared.kinds.Any.{Any}
-use Rattle.ss_library.specs.Kinds.{any_stats}
+use Rattle.ss_library.specs.Kinds.{any_kind, any_stats}
+use Rattle.ss_library.specs.Meaning.{any_meaning}
+use Rattle.ss_library.specs.Saved.{any_saving}
+use Rattle.ss_course.specs.Kept.{Kept, RunsWhole, RunsOut}
+use Rattle.ss_recall.specs.declared.fault.RecallFault.{RecallFault}
+use Rattle.ss_recall.specs.declared.fault.RecallFault.TheVariants as recall_fault
+use Rattle.ss_recall.specs.Recall.{Reading, Recalls, Refuses, graph_in}
 use Rattle.ss_top.specs.declared.refusal.Fault.TheVariants as fault
 use Rattle.ss_graph.specs.Judge.{graph_of}
+use Rattle.ss_graph.specs.declared.fault.LimitKind.{LimitKind}
 use Rattle.ss_graph.specs.declared.fault.LimitKind.TheVariants as limit
-use Rattle.ss_top.specs.Report.{Reports, run_of}
+use Rattle.ss_top.specs.Asked.{course_of, run_of}
+use Rattle.ss_top.specs.Report.{Reports}
 use Rattle.ss_top.specs.Spreading.{parts_of, too_many_threads}
-use Rattle.ss_top.specs.Judge.{Judged, not_text, at_fault, past_limit, accepted, judge, RunsTo}
+use Rattle.ss_top.specs.Judge.{Judged, not_text, at_fault, past_limit, misspelled, unsound, accepted, judge}
 use Rattle.ss_top.specs.declared.Status.{Status}
 use Rattle.ss_top.specs.declared.Status.TheVariants as status
 
@@ -48,18 +60,20 @@ line text = text ++ 10 ∷ []
 abbrev pub refusal : Status → List ℕ → Answer
 refusal s text = record { status = s; steps = []; err = line text }
 
--- a call that is whole: its texts are written one by one, and then bytes are put under names
+-- bytes that are put under a name
 abbrev pub put_of : List ℕ × List ℕ → Step
 put_of p = put p.0 p.1
 
-abbrev pub whole : List (List ℕ) → List (List ℕ × List ℕ) → Answer
-whole texts puts = record { status = status.Whole; steps = map write texts ++ map put_of puts; err = [] }
+-- a call that is whole and puts nothing: its texts are written one by one
+abbrev pub whole : List (List ℕ) → Answer
+whole texts = record { status = status.Whole; steps = map write texts; err = [] }
 
--- the name of the graph that is read
-abbrev pub graph_name : Plan → List ℕ
-graph_name (plan.Run graph options) = graph
-graph_name (plan.Check graph) = graph
-graph_name (plan.Partition graph parts how) = graph
+-- the name of what is read: a graph, or a checkpoint
+abbrev pub entry_name : Plan → List ℕ
+entry_name (plan.Run graph options) = graph
+entry_name (plan.Restart checkpoint options) = checkpoint
+entry_name (plan.Check graph) = graph
+entry_name (plan.Partition graph parts how) = graph
 
 -- what a graph says that is accepted and not run
 unfoldable pub accepted_text : Graph → List ℕ
@@ -82,12 +96,14 @@ cut_line n = if n == 2 ^ 62 then codes "cut none\n" else codes "cut " ++ decimal
 abbrev pub division_texts : Graph → List ℕ → List (List ℕ)
 division_texts g list = part_lines list 0 g.components ++ cut_line (cut g list) ∷ []
 
--- the refusal of a graph's text that stands under a name
+-- the refusal of what stands under a name
 abbrev pub refused_as : List ℕ → Judged → Answer
 refused_as name not_text = refusal status.Text (message_text message.NotText ++ name)
 refused_as name (at_fault f place) = refusal status.Graph (fault_line f place)
 refused_as name (past_limit k n) = refusal status.Limit (limit_line k n)
-refused_as name accepted = whole [] []
+refused_as name (misspelled f) = refusal status.Checkpoint (misspelled_line f)
+refused_as name (unsound f) = refusal status.Checkpoint (unsound_line f)
+refused_as name accepted = whole []
 
 -- why a graph isn't divided, as a judgement
 abbrev pub undivided_by : PartFault → Judged
@@ -95,8 +111,14 @@ undivided_by (part_fault.Parts asked) = past_limit limit.Parts asked
 undivided_by (part_fault.BadThread component) = at_fault fault.BadThread (at (codes "components") component ++ codes ".partition.thread")
 undivided_by part_fault.NoMemory = not_text
 
+-- why a checkpoint isn't gone on from, as a judgement
+abbrev pub unrecalled_by : RecallFault → Judged
+unrecalled_by (recall_fault.Form f) = misspelled f
+unrecalled_by (recall_fault.State f) = unsound f
+unrecalled_by recall_fault.NoMemory = not_text
+
 abbrev pub divided_as : List ℕ → List (List ℕ) → Option PartFault → Answer
-divided_as name texts None = whole texts []
+divided_as name texts None = whole texts
 divided_as name texts (Some f) = refused_as name (undivided_by f)
 
 -- a graph that is divided into so many parts
@@ -118,46 +140,118 @@ abbrev pub sheets : Option (List ℕ) → List ℕ → List (List ℕ × List �
 sheets None text = []
 sheets (Some name) text = (name, text) ∷ []
 
--- the run of an accepted graph in so many parts: its texts, then the statistics, then the report
-abbrev pub AnswersRun : RunOptions → Graph → ℕ → Answer → Type 0
-AnswersRun o g parts a =
-    (texts : List (List ℕ)) × (left : List Any) × (reports : List (List ℕ × List ℕ))
-    × RunsTo g o.stop_at texts left
-    × Reports (run_of g o.stop_at parts (assigned g parts o.spread.how)) o.sync_report reports
-    × (a ≡ whole texts (sheets o.stats (stats_text g left) ++ reports))
+-- the name of the checkpoint of a time: the prefix, and the time in picoseconds
+unfoldable pub save_name : List ℕ → ℕ → List ℕ
+save_name prefix t = prefix ++ (codes "_" ++ (decimal t ++ codes ".sstcpt"))
+
+-- what is done for a checkpoint: the lines before it are written one by one, and then it is put
+abbrev pub steps_of : List ℕ → Kept → List Step
+steps_of prefix k = map write (map text_of k.lines) ++ put (save_name prefix k.time) k.bytes ∷ []
+
+-- a run that came to its end: its checkpoints, the lines behind them and the final line, and what is put at the end
+abbrev pub ran : List ℕ → List Kept → List Line → ℕ → List (List ℕ × List ℕ) → Answer
+ran prefix ks rest time puts = record { status = status.Whole; steps = flat_map (steps_of prefix) ks ++ (map write (map text_of rest ++ final_line time ∷ []) ++ map put_of puts); err = [] }
+
+-- a run that a limit ended: its checkpoints, and the lines before the one that passes it
+abbrev pub limited : List ℕ → List Kept → List Line → LimitKind → ℕ → Answer
+limited prefix ks rest what n = record { status = status.Limit; steps = flat_map (steps_of prefix) ks ++ map write (map text_of rest); err = line (limit_line what n) }
+
+-- the run of an accepted graph in so many parts, from what it begins with
+module _ (g : Graph) (from : Origin) (o : RunOptions) (parts : ℕ) where
+  -- it comes to its end: then the statistics are put, and the report
+  pub record AnswersWhole (a : Answer) : Type 0 where
+    pub ks : List Kept
+    pub rest : List Line
+    pub time : ℕ
+    pub left : List Any
+    pub reports : List (List ℕ × List ℕ)
+    pub runs : RunsWhole any_kind any_saving any_meaning (course_of g from o) ks rest time left
+    pub reported : Reports (run_of g from o parts) o.sync_report reports
+    pub is : a ≡ ran o.checkpoint_prefix ks rest time (sheets o.stats (stats_text g left) ++ reports)
+
+  -- or a checkpoint of it passes a limit
+  pub record AnswersLimited (a : Answer) : Type 0 where
+    pub ks : List Kept
+    pub rest : List Line
+    pub what : LimitKind
+    pub number : ℕ
+    pub runs : RunsOut any_kind any_saving any_meaning (course_of g from o) ks rest what number
+    pub is : a ≡ limited o.checkpoint_prefix ks rest what number
+
+  abbrev pub AnswersRun : Answer → Type 0
+  AnswersRun a = AnswersWhole a ⊎ AnswersLimited a
 
 -- the same where the graph can be divided into so many parts, and else the refusal
-abbrev pub AnswersDivided : List ℕ → RunOptions → Graph → ℕ → Option PartFault → Answer → Type 0
-AnswersDivided name o g parts None a = AnswersRun o g parts a
-AnswersDivided name o g parts (Some f) a = a ≡ refused_as name (undivided_by f)
+abbrev pub AnswersDivided : List ℕ → Graph → Origin → RunOptions → ℕ → Option PartFault → Answer → Type 0
+AnswersDivided name g from o parts None a = AnswersRun g from o parts a
+AnswersDivided name g from o parts (Some f) a = a ≡ refused_as name (undivided_by f)
 
+-- the run as its options ask for it
+abbrev pub AnswersAsked : List ℕ → Graph → Origin → RunOptions → Answer → Type 0
+AnswersAsked name g from o a = AnswersDivided name g from o (parts_of o.spread g) (undivided g (parts_of o.spread g) o.spread.how) a
+
+-- what an accepted graph answers; a restart is answered by a checkpoint
 abbrev pub AnswersAccepted : Plan → Graph → Answer → Type 0
-AnswersAccepted (plan.Run graph options) g a = AnswersDivided graph options g (parts_of options.spread g) (undivided g (parts_of options.spread g) options.spread.how) a
-AnswersAccepted (plan.Check graph) g a = a ≡ whole (accepted_text g ∷ []) []
+AnswersAccepted (plan.Run graph options) g a = AnswersAsked graph g origin.Start options a
+AnswersAccepted (plan.Restart checkpoint options) g a = ⊥
+AnswersAccepted (plan.Check graph) g a = a ≡ whole (accepted_text g ∷ [])
 AnswersAccepted (plan.Partition graph parts how) g a = a ≡ division graph g (unwrap_or parts 1) how
 
 -- what a graph that was judged answers
 abbrev pub AnswersJudged : Plan → Graph → Judged → Answer → Type 0
-AnswersJudged p g not_text a = a ≡ refused_as (graph_name p) not_text
-AnswersJudged p g (at_fault f place) a = a ≡ refused_as (graph_name p) (at_fault f place)
-AnswersJudged p g (past_limit k n) a = a ≡ refused_as (graph_name p) (past_limit k n)
+AnswersJudged p g not_text a = a ≡ refused_as (entry_name p) not_text
+AnswersJudged p g (at_fault f place) a = a ≡ refused_as (entry_name p) (at_fault f place)
+AnswersJudged p g (past_limit k n) a = a ≡ refused_as (entry_name p) (past_limit k n)
+AnswersJudged p g (misspelled f) a = a ≡ refused_as (entry_name p) (misspelled f)
+AnswersJudged p g (unsound f) a = a ≡ refused_as (entry_name p) (unsound f)
 AnswersJudged p g accepted a = AnswersAccepted p g a
 
 -- what a graph's text answers
 unfoldable pub AnswersText : Plan → List ℕ → Answer → Type 0
 AnswersText p bytes a = AnswersJudged p (graph_of bytes) (judge bytes) a
 
--- the bytes of a graph text are at most so many
-abbrev pub most_graph : ℕ
-most_graph = 67108864
+-- a checkpoint's bytes stand for a state of a graph from which a run goes on
+pub record AnswersRecalled (name bytes : List ℕ) (o : RunOptions) (a : Answer) : Type 0 where
+  pub recalled : Reading
+  pub recalls : Recalls bytes recalled
+  pub asked : AnswersAsked name (graph_in recalled) (origin.Saved bytes) o a
+
+-- or they are refused
+pub record AnswersUnrecalled (name bytes : List ℕ) (a : Answer) : Type 0 where
+  pub fault : RecallFault
+  pub refuses : Refuses bytes fault
+  pub is : a ≡ refused_as name (unrecalled_by fault)
+
+abbrev pub AnswersSaved : List ℕ → List ℕ → RunOptions → Answer → Type 0
+AnswersSaved name bytes o a = AnswersRecalled name bytes o a ⊎ AnswersUnrecalled name bytes a
+
+-- what the bytes that were read answer
+abbrev pub AnswersRead : Plan → List ℕ → Answer → Type 0
+AnswersRead (plan.Run graph options) bytes a = AnswersText (plan.Run graph options) bytes a
+AnswersRead (plan.Restart checkpoint options) bytes a = AnswersSaved checkpoint bytes options a
+AnswersRead (plan.Check graph) bytes a = AnswersText (plan.Check graph) bytes a
+AnswersRead (plan.Partition graph parts how) bytes a = AnswersText (plan.Partition graph parts how) bytes a
+
+-- the bytes of a graph text, or of a checkpoint, are at most so many
+abbrev pub most_of : Plan → ℕ
+most_of (plan.Run graph options) = 67108864
+most_of (plan.Restart checkpoint options) = 1073741824
+most_of (plan.Check graph) = 67108864
+most_of (plan.Partition graph parts how) = 67108864
+
+abbrev pub size_limit : Plan → LimitKind
+size_limit (plan.Run graph options) = limit.GraphBytes
+size_limit (plan.Restart checkpoint options) = limit.CheckpointBytes
+size_limit (plan.Check graph) = limit.GraphBytes
+size_limit (plan.Partition graph parts how) = limit.GraphBytes
 
 abbrev pub AnswersSized : Plan → List ℕ → Bool → Answer → Type 0
-AnswersSized p bytes true a = a ≡ refusal status.Limit (limit_line limit.GraphBytes (most_graph + 1))
-AnswersSized p bytes false a = AnswersText p bytes a
+AnswersSized p bytes true a = a ≡ refusal status.Limit (limit_line (size_limit p) (most_of p + 1))
+AnswersSized p bytes false a = AnswersRead p bytes a
 
 -- what the bytes under the name answer
 abbrev pub AnswersBytes : Plan → List ℕ → Answer → Type 0
-AnswersBytes p bytes a = AnswersSized p bytes (nat_lt most_graph (length bytes)) a
+AnswersBytes p bytes a = AnswersSized p bytes (nat_lt (most_of p) (length bytes)) a
 
 -- a name that isn't there has no answer, since a read of it is a fault
 abbrev pub AnswersEntry : Plan → Option (List ℕ) → Answer → Type 0
@@ -182,7 +276,7 @@ usage_status u = status.Usage
 
 -- too many threads are refused before anything is read
 abbrev pub AnswersPlanned : Plan → Contents → Option ℕ → Answer → Type 0
-AnswersPlanned p held None a = AnswersEntry p (get held (graph_name p)) a
+AnswersPlanned p held None a = AnswersEntry p (get held (entry_name p)) a
 AnswersPlanned p held (Some threads) a = a ≡ refusal status.Limit (limit_line limit.Threads threads)
 
 abbrev pub AnswersPlan : Result Plan Usage → Contents → Answer → Type 0
@@ -194,7 +288,7 @@ unfoldable pub Answers : List (List ℕ) → Contents → Answer → Type 0
 Answers words held a = AnswersPlan (plan_by words) held a
 
 abbrev pub AsksPlanned : Plan → Option ℕ → List ℕ → Type 0
-AsksPlanned p None name = name ≡ graph_name p
+AsksPlanned p None name = name ≡ entry_name p
 AsksPlanned p (Some threads) name = ⊥
 
 abbrev pub AsksOf : Result Plan Usage → List ℕ → Type 0

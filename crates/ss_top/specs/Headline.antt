@@ -89,7 +89,7 @@ pub record Unwritten (answers : Contents → Answer → Type 0) (old new : Seen)
   pub stands : Stands old.outside.held held
   pub answer : Answer
   pub answered : answers held answer
-  pub whole : answer.status ≡ status.Whole
+  pub some : (answer.status ≡ status.Whole) ⊎ (answer.status ≡ status.Limit)
   pub front : List Step
   pub step : Step
   pub rest : List Step
@@ -120,6 +120,7 @@ EndsBy answers asks leaves old new status.Usage = Given answers old new status.U
 EndsBy answers asks leaves old new status.Text = Given answers old new status.Text
 EndsBy answers asks leaves old new status.Graph = Given answers old new status.Graph
 EndsBy answers asks leaves old new status.Limit = Given answers old new status.Limit
+EndsBy answers asks leaves old new status.Checkpoint = Given answers old new status.Checkpoint
 EndsBy answers asks leaves old new status.ReadFault = Unread asks old new
 EndsBy answers asks leaves old new status.WriteFault = Unwritten answers old new
 EndsBy answers asks leaves old new status.NoMemory = Starved answers old new
@@ -135,6 +136,7 @@ Failing status.Usage = ⊥
 Failing status.Text = ⊥
 Failing status.Graph = ⊥
 Failing status.Limit = ⊥
+Failing status.Checkpoint = ⊥
 Failing status.ReadFault = Unit {0}
 Failing status.WriteFault = Unit {0}
 Failing status.NoMemory = Unit {0}

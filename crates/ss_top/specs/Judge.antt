@@ -1,7 +1,6 @@
 -- What a graph text is, and what the run of its graph prints.
-use Rattle.std.specs.Prelude.{ℕ, ◌==◌, ◌^◌, ◌≡◌, List, Option, Some, None, if◌then◌else◌, codes}
-use Rattle.ss_model.specs.Step.{opening}
-use Rattle.ss_model.specs.End.{Behaviour, Limits, Outcome, IsRun, ended, printed_texts}
+use Rattle.std.specs.Prelude.{ℕ, ◌==◌, ◌^◌, List, Option, Some, None, if◌then◌else◌, codes}
+use Rattle.ss_model.specs.End.{Behaviour, Limits}
 use Rattle.ss_element.specs.Kind.{behaviour}
 use Rattle.ss_graph.specs.declared.graph.Graph.{Graph}
 use Rattle.ss_graph.specs.declared.fault.GraphFault.{GraphFault}
@@ -9,20 +8,25 @@ use Rattle.ss_graph.specs.declared.fault.GraphFault.TheVariants as reading
 use Rattle.ss_graph.specs.declared.fault.LimitKind.{LimitKind}
 use Rattle.ss_graph.specs.Checks.{first_fault}
 use Rattle.ss_graph.specs.Judge.{text_checks, graph_of}
+use Rattle.ss_ckpt.specs.declared.fault.CkptFault.{CkptFault}
+use Rattle.ss_restart.specs.declared.fault.RestartFault.{RestartFault}
 use Rattle.ss_library.specs.declared.kinds.Any.{Any}
 use Rattle.mr_flow.specs.declared.Load.{Load}
 use Rattle.ss_network.specs.declared.fault.MakeFault.{MakeFault}
 use Rattle.ss_network.specs.declared.fault.MakeFault.TheVariants as making
 use Rattle.ss_library.specs.Kinds.{any_kind}
-use Rattle.ss_library.specs.Make.{Made, make_checks, model_of}
+use Rattle.ss_library.specs.Make.{make_checks}
 use Rattle.ss_top.specs.declared.refusal.Fault.{Fault}
 use Rattle.ss_top.specs.declared.refusal.Fault.TheVariants as fault
 
--- no JSON value; a graph with a fault, and its place; a quantity that passes its limit; or a graph
+-- no JSON value; a graph with a fault, and its place; a quantity that passes its limit; bytes that are no checkpoint; one of a
+-- state that isn't sound; or what is accepted
 pub data Judged : Type 0 where
   not_text : Judged
   at_fault : Fault → List ℕ → Judged
   past_limit : LimitKind → ℕ → Judged
+  misspelled : CkptFault → Judged
+  unsound : RestartFault → Judged
   accepted : Judged
 
 -- by the first fault of its making
@@ -73,14 +77,3 @@ stop_by (Some asked) stop = if asked == 0 then 2 ^ 62 else asked
 -- a run from the start, until its stop time at the latest
 abbrev pub limits_of : Graph → Option ℕ → Limits
 limits_of g asked = record { origin = 0; stop = stop_by asked g.options.stop_at; exit = g.options.exit_period }
-
--- the run of a model from its opening prints these texts, and leaves its components so
-pub record Prints (m : Made) (l : Limits) (texts : List (List ℕ)) (left : List Any) : Type 0 where
-  pub outcome : Outcome
-  pub run : IsRun elements m.wires l (opening m.elements) outcome
-  pub printed : texts ≡ printed_texts elements m.wires (opening m.elements) outcome
-  pub leaves : left ≡ (ended elements m.wires (opening m.elements) outcome).components
-
--- the run of an accepted graph, with the stop time that is asked for, prints these texts and leaves its components so
-unfoldable pub RunsTo : Graph → Option ℕ → List (List ℕ) → List Any → Type 0
-RunsTo g asked texts left = Prints (model_of g) (limits_of g asked) texts left

@@ -1,32 +1,12 @@
 -- What the report on a run's windows says.
 use Rattle.std.specs.Prelude.{◌≡◌, ℕ, zero, suc, ◌==◌, ◌<◌, List, [], ◌∷◌, ◌++◌, length, Option, Some, None, if◌then◌else◌, codes, decimal}
-use Rattle.std.specs.List.{list_any}
 use Rattle.ss_model.specs.declared.Event.{Event}
-use Rattle.ss_graph.specs.declared.graph.Graph.{Graph}
 use Rattle.mr_flow.specs.declared.Load.{Load}
 use Rattle.ss_library.specs.Kinds.{any_kind}
-use Rattle.ss_library.specs.Make.{model_of}
 use Rattle.ss_library.specs.Meaning.{any_meaning}
 use Rattle.ss_run.specs.declared.RunSpec.{RunSpec}
-use Rattle.ss_run.specs.declared.Origin.TheVariants as origin
 use Rattle.ss_run.specs.Run.{HasWindows, IsBatch}
 use Rattle.ss_worker.specs.Told.{total}
-use Rattle.ss_top.specs.Judge.{stop_by}
-
--- the run of a graph in so many parts, of which the list has that of each component, with the stop time that is asked for
-abbrev pub run_of : Graph → Option ℕ → ℕ → List ℕ → RunSpec
-run_of g asked parts list = record {
-  graph = g;
-  partition = record { parts = parts; list = list };
-  cuts = record {
-    stop = stop_by asked g.options.stop_at;
-    origin = 0;
-    exit = if list_any any_kind.primary (model_of g).elements then Some g.options.exit_period else None;
-    save_at = None;
-    save_every = None;
-  };
-  origin = origin.Start;
-}
 
 -- the run has so many windows
 abbrev pub Has : RunSpec → ℕ → Type 0

@@ -12,6 +12,7 @@ past_threads n = if n == 0 || nat_lt 32 n then Some n else None
 -- the number of threads that a plan asks for, where it passes its limit
 abbrev pub too_many_threads : Plan → Option ℕ
 too_many_threads (plan.Run graph options) = past_threads options.spread.threads
+too_many_threads (plan.Restart checkpoint options) = past_threads options.spread.threads
 too_many_threads (plan.Check graph) = None
 too_many_threads (plan.Partition graph parts how) = None
 

@@ -16,7 +16,14 @@ use Rattle.ss_library.specs.declared.kinds.Any.{Any}
 use Rattle.ss_library.specs.Kinds.{any_kind, any_stats}
 use Rattle.ss_library.specs.Ways.{any_ways}
 use Rattle.ss_library.specs.Make.{Made, member_of, model_of}
-use Rattle.ss_top.specs.Judge.{elements, limits_of, RunsTo}
+use Rattle.ss_model.specs.declared.Line.{Line}
+use Rattle.ss_library.specs.Meaning.{any_meaning}
+use Rattle.ss_library.specs.Saved.{any_saving}
+use Rattle.ss_run.specs.declared.Origin.TheVariants as origin
+use Rattle.ss_course.specs.Kept.{Kept, RunsWhole}
+use Rattle.ss_cmd.specs.declared.RunOptions.{RunOptions}
+use Rattle.ss_top.specs.Asked.{course_of}
+use Rattle.ss_top.specs.Judge.{elements, limits_of}
 
 -- a statistic of this name is asked for of a component, as an accumulator
 pub record AsksFor (p : Part) (name : List ℕ) : Type 0 where
@@ -42,6 +49,6 @@ pub record TellsInOrder (g : Graph) (asked : Option ℕ) (left : List Any) : Typ
   pub run : IsRun elements (model_of g).wires (limits_of g asked) (opening (model_of g).elements) outcome
   pub each : (c : ℕ) (p : Part) (e : EndpointAsk) (x : Any) → slice_get g.components c ≡ Some p → member_of p ≡ member.Endpoint e → slice_get left c ≡ Some x → TellsOf p x (delivered_by (model_of g) c outcome.steps)
 
--- so whatever texts and components a run comes to: the statistics of these components are what a call stores
-abbrev pub StatisticsTellOrder : Graph → Option ℕ → Type 0
-StatisticsTellOrder g asked = (texts : List (List ℕ)) (left : List Any) → RunsTo g asked texts left → TellsInOrder g asked left
+-- so whatever a run from the start comes to: the statistics of the components that it leaves are what a call stores
+abbrev pub StatisticsTellOrder : Graph → RunOptions → Type 0
+StatisticsTellOrder g o = (ks : List Kept) (rest : List Line) (time : ℕ) (left : List Any) → RunsWhole any_kind any_saving any_meaning (course_of g origin.Start o) ks rest time left → TellsInOrder g o.stop_at left

@@ -49,6 +49,7 @@ pub enum Message {
     NotText,
     Graph,
     Limit,
+    Checkpoint,
     ReadFault,
     WriteFault,
     OutputFault,
@@ -64,6 +65,7 @@ fn text_of_message(message: Message) -> &'static [u8]
         Message::NotText => b"sst: text: ",
         Message::Graph => b"sst: graph: ",
         Message::Limit => b"sst: limit: ",
+        Message::Checkpoint => b"sst: checkpoint: ",
         Message::ReadFault => b"sst: read fault: ",
         Message::WriteFault => b"sst: write fault: ",
         Message::OutputFault => b"sst: write fault: output",
@@ -85,6 +87,44 @@ pub fn tell_two<R: Sink>(err: &mut R, message: Message, front: &[u8], back: &[u8
         Err(_) => return,
     }
     match write_all(err, back) {
+        Ok(()) => (),
+        Err(_) => return,
+    }
+    match write_all(err, b"\n".as_slice()) {
+        Ok(()) => (),
+        Err(_) => (),
+    }
+}
+
+/// Writes a line that says a message and what it names in four parts. It takes no memory.
+pub fn tell_four<R: Sink>(
+    err: &mut R,
+    message: Message,
+    first: &[u8],
+    second: &[u8],
+    third: &[u8],
+    fourth: &[u8],
+)
+    ensures told { Told (line (message_text message ++ (first.now ++ (second.now ++ (third.now ++ fourth.now))))) (R.taken err.old) (R.taken err.new) (R.faults err.old) (R.faults err.new) }
+    ensures faults { R.faults err.old ≤ R.faults err.new }
+{
+    match write_all(err, text_of_message(message)) {
+        Ok(()) => (),
+        Err(_) => return,
+    }
+    match write_all(err, first) {
+        Ok(()) => (),
+        Err(_) => return,
+    }
+    match write_all(err, second) {
+        Ok(()) => (),
+        Err(_) => return,
+    }
+    match write_all(err, third) {
+        Ok(()) => (),
+        Err(_) => return,
+    }
+    match write_all(err, fourth) {
         Ok(()) => (),
         Err(_) => return,
     }

@@ -1,18 +1,26 @@
 //! Putting texts under their names.
 
-ghost use Rattle.std.specs.Prelude.{◌≤◌};
+ghost use Rattle.std.specs.Prelude.{◌≤◌, ℕ, List, Option, None, map};
 ghost use Rattle.ss_edge.specs.Edge.{Kept};
+ghost use Rattle.ss_top.specs.Doing.{Does, filing};
+ghost use Rattle.ss_top.specs.Headline.{seen};
 ghost use Rattle.ss_top.specs.Simulate.{puts_by};
-ghost use Rattle.ss_top.specs.Writing.{Puts};
 
-use crate::Status;
+use crate::doing::Stop;
 use crate::print::{Message, tell};
 use crate::sheets::Sheet;
 use ss_edge::{Shelf, Sink};
 
 /// Puts texts under their names, one after another.
-pub fn put_sheets<V: Shelf, R: Sink>(sheets: &[Sheet], shelf: &mut V, err: &mut R) -> Status
-    ensures ends { Puts (puts_by sheets.now) (V.held shelf.old) (V.held shelf.new) (V.put_faults shelf.old) (V.put_faults shelf.new) (R.taken err.old) (R.taken err.new) (R.faults err.old) (R.faults err.new) result }
+pub fn put_sheets<V: Shelf, R: Sink>(
+    sheets: &[Sheet],
+    shelf: &mut V,
+    err: &mut R,
+) -> Result<(), Stop>
+    ensures does { (taken : Option (List ℕ)) (faults : ℕ) → Does (filing (puts_by sheets.now))
+        (seen (V.held shelf.old) (V.read_faults shelf.old) (V.put_faults shelf.old) taken faults (R.taken err.old) (R.faults err.old))
+        (seen (V.held shelf.new) (V.read_faults shelf.new) (V.put_faults shelf.new) taken faults (R.taken err.new) (R.faults err.new))
+        result }
     ensures reads { Kept (V.read_faults shelf.old) (V.read_faults shelf.new) }
     ensures puts { Kept (V.put_faults shelf.old) (V.put_faults shelf.new) }
     ensures err_faults { R.faults err.old ≤ R.faults err.new }
@@ -23,9 +31,9 @@ pub fn put_sheets<V: Shelf, R: Sink>(sheets: &[Sheet], shelf: &mut V, err: &mut 
             Ok(()) => (),
             Err(_) => {
                 tell(err, Message::WriteFault, name.as_bytes());
-                return Status::WriteFault;
+                return Err(Stop::WriteFault);
             }
         }
     }
-    Status::Whole
+    Ok(())
 }

@@ -1,4 +1,4 @@
-//! What a run prints and what is put beside its output.
+//! What is put behind a run: its statistics and its report.
 
 ghost use Rattle.std.specs.Prelude.{◌≡◌, ◌≤◌, ◌^◌, ◌++◌, ◌∷◌, [], false, IfOk, OnOk, ℕ, List, length, map, slice_get, Some};
 ghost use Rattle.ss_stats.specs.Text.{head};
@@ -13,7 +13,7 @@ ghost use Rattle.ss_top.specs.Dividing.{AreListsOf, AreParts};
 ghost use Rattle.ss_top.specs.Report.{Has};
 ghost use Rattle.ss_top.specs.Simulate.{puts_by};
 
-use ss_element::{Element, Line};
+use ss_element::Element;
 use ss_graph::{Graph, Part};
 use ss_library::Any;
 use ss_part::Partition;
@@ -22,14 +22,6 @@ use ss_stats::{csv_head, csv_rows};
 use ss_units::Text;
 use ss_worker::Worker;
 use std::alloc::{AllocError, Global};
-
-/// What a run prints, as lines and the time that the final line tells, and what is put behind it.
-#[derive(Drop)]
-pub struct Printed {
-    pub lines: Vec<Line>,
-    pub time: u64,
-    pub sheets: Vec<Sheet>,
-}
 
 /// A text, and the name under which it is put.
 #[derive(Drop)]

@@ -1,39 +1,47 @@
-//! The run of a graph text.
+//! What a call comes to, once the bytes are read that it asks for.
 
-ghost use Rattle.std.specs.Prelude.{◌≡◌, ◌<◌, ◌≤◌, ◌^◌, ◌++◌, ◌∷◌, [], map, length, IfOk, IfSome, None, List, ℕ};
-ghost use Rattle.ss_model.specs.Step.{opening};
-ghost use Rattle.ss_model.specs.End.{text_of, final_line};
+ghost use Rattle.std.specs.Prelude.{◌≡◌, ◌<◌, ◌≤◌, ◌^◌, length, IfErr, IfOk, IfSome, None, List, ℕ};
+ghost use Rattle.ss_cmd.specs.Grammar.{AreInRange, IsEarly};
+ghost use Rattle.ss_cmd.specs.declared.Plan.TheVariants as plan;
 ghost use Rattle.ss_graph.specs.Fit.{IsFit};
 ghost use Rattle.ss_graph.specs.Judge.{graph_of};
 ghost use Rattle.ss_library.specs.Kinds.{any_safe};
-ghost use Rattle.ss_cmd.specs.Grammar.{IsEarly};
-ghost use Rattle.ss_graph.specs.Checks.{first_fault};
-ghost use Rattle.ss_library.specs.Make.{make_checks, model_of};
-ghost use Rattle.ss_library.specs.Order.{PacketsStayInOrder};
-ghost use Rattle.ss_cmd.specs.declared.Plan.TheVariants as plan;
+ghost use Rattle.ss_library.specs.Make.{model_of};
+ghost use Rattle.ss_model.specs.Step.{opening, starts};
 ghost use Rattle.ss_part.specs.Assigned.{assigned};
 ghost use Rattle.ss_part.specs.Division.{AreBelow};
-ghost use Rattle.ss_top.specs.Answer.{accepted_text, part_line, part_lines, cut_line, division_texts};
-ghost use Rattle.ss_top.specs.Judge.{Prints, judge, judged_made, accepted, stop_by};
-ghost use Rattle.ss_top.specs.Left.{Working};
-ghost use Rattle.ss_top.specs.Simulate.{IsVerdict, HasRun, IsDivided};
+ghost use Rattle.ss_recall.specs.Recalled.{IsRecalled};
+ghost use Rattle.mr_flow.specs.declared.Load.{Load};
+ghost use Rattle.ss_run.specs.declared.Origin.TheVariants as origin;
+ghost use Rattle.ss_top.specs.Answer.{AnswersAsked, AnswersRead, AnswersSaved, AnswersText, entry_name};
+ghost use Rattle.ss_top.specs.Accepted.{IsAcceptedText, IsDivision, IsRunnable, IsRefusedText, Undivides};
+ghost use Rattle.ss_top.specs.Dividing.{BeginsWith};
+ghost use Rattle.ss_top.specs.Judge.{stop_by};
+ghost use Rattle.ss_top.specs.Left.{Working, LeavesAccepted, LeavesRead, LeavesRun, LeavesSaved};
+ghost use Rattle.ss_top.specs.Simulate.{HasRun, IsVerdict};
 ghost use Rattle.ss_top.specs.Spreading.{parts_of, too_many_threads};
 
 use crate::Ran;
-use crate::parts::run_divided;
-use crate::refusal::{Refusal, refused, undivided, unmade};
-use crate::sheets::{Printed, stats_sheet};
+use crate::parts::{run_divided, spec_of};
+use crate::plain::{is_plain, run_plain};
+use crate::printed::Printed;
+use crate::refusal::{Refusal, refused, undivided, unmade, unrecalled};
+use crate::texts::{checked, divide};
+use mr_flow::Load;
+use ss_ckpt::Saved;
 use ss_cmd::{Plan, RunOptions, Spread};
-use ss_element::{Line, Model};
-use ss_graph::{Graph, Part, read};
+use ss_element::Model;
+use ss_graph::{Graph, read};
 use ss_library::{Any, make};
-use ss_part::{How, Partition, assign, lookahead};
-use ss_serial::Serial;
-use ss_units::push_decimal;
+use ss_model::{Event, Key, START};
+use ss_part::{How, Partition, assign};
+use ss_recall::{Recalled, recall};
+use ss_run::Origin;
+use ss_units::Items;
 use std::alloc::{AllocError, Global};
 use std::thread::Threads;
 
-/// What a graph text answers: what its run prints and puts; texts that are listed; or a refusal.
+/// What a call comes to: what its run prints and puts; texts that are listed; or a refusal.
 #[derive(Drop)]
 pub enum Verdict {
     Ran(Printed),
@@ -41,35 +49,11 @@ pub enum Verdict {
     Refused(Refusal),
 }
 
-/// The lines of a run, the time that its final line tells, and the simulation as the run left it.
+/// An accepted graph and its model.
 #[derive(Drop)]
-struct Simulated {
-    lines: Vec<Line>,
-    time: u64,
-    serial: Serial<Any>,
-}
-
-/// Runs a model from its start.
-fn run_model(
-    alloc: Global,
-    model: Model<Any>,
-    stop: u64,
-    exit: u64,
-) -> Result<Simulated, AllocError>
-    requires few { length model.elements.items < 2 ^ 32 }
-    requires early { stop ≤ 2 ^ 62 }
-    requires exits { (1 ≤ exit) × (exit ≤ 2 ^ 40) }
-    requires safe { any_safe model.wires 0 (opening model.elements.items) }
-    ensures { IfOk result (λ r. Prints (record { elements = model.elements.items; wires = model.wires }) (record { origin = 0; stop = stop; exit = exit }) (map text_of r.lines.items ++ final_line r.time ∷ []) r.serial.state.components) }
-{
-    let mut serial = Serial::start(alloc, model)?;
-    let time = serial.run(0, stop, exit)?;
-    let lines = serial.take_lines();
-    Ok(Simulated {
-        lines,
-        time,
-        serial,
-    })
+pub struct Accepted {
+    pub graph: Graph,
+    pub model: Model<Any>,
 }
 
 /// When a run stops at the latest, by what is asked and by its graph.
@@ -86,133 +70,6 @@ pub fn stop_time(asked: Option<u64>, stop: u64) -> u64
     }
 }
 
-/// What an accepted graph says of itself.
-#[tactic(auto, unfolding(crate::specs::Answer::accepted_text))]
-fn accepted_line(alloc: Global, graph: &Graph) -> Result<Vec<u8>, AllocError>
-    ensures { IfOk result (λ v. v.items ≡ accepted_text graph.now) }
-{
-    let mut text = Vec::from_slice(alloc, b"graph accepted: ")?;
-    push_decimal(&mut text, graph.components.as_slice().len() as u128)?;
-    text.extend_from_slice(b" components, ")?;
-    push_decimal(&mut text, graph.links.as_slice().len() as u128)?;
-    text.extend_from_slice(b" links\n")?;
-    Ok(text)
-}
-
-/// One text that is listed.
-fn listed(alloc: Global, text: Vec<u8>) -> Result<Vec<Vec<u8>>, AllocError>
-    ensures { IfOk result (λ v. map (λ t. t.items) v.items ≡ text.items ∷ []) }
-{
-    let mut texts = Vec::new(alloc);
-    texts.push(text)?;
-    Ok(texts)
-}
-
-/// The text of an accepted graph, as a list.
-fn checked(alloc: Global, graph: &Graph) -> Result<Vec<Vec<u8>>, AllocError>
-    ensures { IfOk result (λ v. map (λ t. t.items) v.items ≡ accepted_text graph.now ∷ []) }
-{
-    listed(alloc, accepted_line(alloc, graph)?)
-}
-
-/// The line of a component and its part.
-fn part_text(alloc: Global, name: &str, part: u32) -> Result<Vec<u8>, AllocError>
-    ensures { IfOk result (λ v. v.items ≡ part_line name.now part) }
-{
-    let mut text = Vec::from_slice(alloc, name.as_bytes())?;
-    text.push(b' ')?;
-    push_decimal(&mut text, part as u128)?;
-    text.push(b'\n')?;
-    Ok(text)
-}
-
-/// The line of the least latency between two parts.
-#[tactic(auto, unfolding(crate::specs::Answer::cut_line))]
-fn cut_text(alloc: Global, least: u64) -> Result<Vec<u8>, AllocError>
-    ensures { IfOk result (λ v. v.items ≡ cut_line least) }
-{
-    if least == 1 << 62 {
-        return Vec::from_slice(alloc, b"cut none\n");
-    }
-    let mut text = Vec::from_slice(alloc, b"cut ")?;
-    push_decimal(&mut text, least as u128)?;
-    text.extend_from_slice(b" ps\n")?;
-    Ok(text)
-}
-
-/// The lines of the components and their parts.
-fn part_texts(
-    alloc: Global,
-    parts: &[Part],
-    partition: &Partition,
-) -> Result<Vec<Vec<u8>>, AllocError>
-    requires whole { length partition.now.list ≡ length parts.now }
-    requires few { length parts.now ≤ 2 ^ 16 }
-    ensures { IfOk result (λ v. map (λ t. t.items) v.items ≡ part_lines partition.now.list 0 parts.now) }
-{
-    let mut texts = Vec::new(alloc);
-    for (i, component) in parts.iter().enumerate() {
-        let text = part_text(alloc, component.name.as_str(), partition.part_of(i as u32))?;
-        texts.push(text)?;
-    }
-    Ok(texts)
-}
-
-/// What a division says.
-fn division_list(
-    alloc: Global,
-    graph: &Graph,
-    partition: &Partition,
-) -> Result<Vec<Vec<u8>>, AllocError>
-    requires fit { IsFit graph.now }
-    requires whole { length partition.now.list ≡ length graph.now.components }
-    ensures { IfOk result (λ v. map (λ t. t.items) v.items ≡ division_texts graph.now partition.now.list) }
-{
-    let mut texts = part_texts(alloc, graph.components.as_slice(), partition)?;
-    let cut = cut_text(alloc, lookahead(graph, partition))?;
-    texts.push(cut)?;
-    Ok(texts)
-}
-
-/// Divides an accepted graph whose text stands under a name.
-fn divide(alloc: Global, name: &str, graph: &Graph, parts: u32, how: How) -> Verdict
-    requires { IsFit graph.now }
-    ensures { IsDivided name.now graph.now parts how result }
-{
-    match assign(alloc, graph, parts, how) {
-        Ok(partition) => match division_list(alloc, graph, &partition) {
-            Ok(texts) => Verdict::Listed(texts),
-            Err(_) => Verdict::Refused(Refusal::NoMemory),
-        },
-        Err(fault) => Verdict::Refused(undivided(alloc, fault)),
-    }
-}
-
-/// Runs an accepted graph's model as one part, as a plan's options ask.
-fn run_whole(
-    alloc: Global,
-    graph: &Graph,
-    options: &RunOptions,
-    model: Model<Any>,
-) -> Result<Printed, AllocError>
-    requires fit { IsFit graph.now }
-    requires early { IfSome options.now.stop_at (λ t. t ≤ 2 ^ 62) }
-    requires made { record { elements = model.elements.items; wires = model.wires } ≡ model_of graph.now }
-    requires few { length model.elements.items < 2 ^ 32 }
-    requires safe { any_safe model.wires 0 (opening model.elements.items) }
-    requires unreported { options.now.sync_report ≡ None }
-    ensures { (workers : List Working) → IfOk result (HasRun graph.now options.now 1 workers) }
-{
-    let stop = stop_time(options.stop_at, graph.options.stop_at);
-    let simulated = run_model(alloc, model, stop, graph.options.exit_period)?;
-    let sheets = stats_sheet(alloc, &options.stats, graph, simulated.serial.elements())?;
-    Ok(Printed {
-        lines: simulated.lines,
-        time: simulated.time,
-        sheets,
-    })
-}
-
 /// In how many parts a graph is run.
 fn part_count(spread: &Spread, graph: &Graph) -> u32
     requires { IsFit graph.now }
@@ -227,113 +84,240 @@ fn part_count(spread: &Spread, graph: &Graph) -> u32
     }
 }
 
-/// Runs an accepted graph's model in the parts of a division, as a plan's options ask.
-fn run_parts<T: Threads + Sync>(
-    rt: &T,
-    alloc: Global,
-    graph: Graph,
-    options: &RunOptions,
-    model: Model<Any>,
-    partition: Partition,
-    ran: &mut Ran,
-) -> Result<Printed, AllocError>
-    requires fit { IsFit graph }
-    requires early { IfSome options.now.stop_at (λ t. t ≤ 2 ^ 62) }
-    requires threads { 1 ≤ options.now.spread.threads }
-    requires made { record { elements = model.elements.items; wires = model.wires } ≡ model_of graph }
-    requires few { length model.elements.items < 2 ^ 32 }
-    requires safe { any_safe model.wires 0 (opening model.elements.items) }
-    requires some { 1 ≤ partition.parts }
-    requires divided { partition.list ≡ assigned graph partition.parts options.now.spread.how }
-    requires whole { length partition.list ≡ length graph.components }
-    requires below { AreBelow partition.list partition.parts }
-    requires few_parts { partition.parts ≤ 32 }
-    ensures { IfOk result (HasRun graph options.now partition.parts ran.new.workers.items) }
+/// The parts in which a graph is run.
+fn division_of(alloc: Global, graph: &Graph, spread: &Spread) -> Result<Partition, Refusal>
+    requires { IsFit graph.now }
+    ensures divided { IfOk result (IsDivision graph.now spread.now) }
+    ensures undivided { IfErr result (Undivides graph.now spread.now) }
 {
-    if partition.parts() > 1 {
-        return run_divided(rt, alloc, graph, options, model, partition, ran);
-    }
-    match &options.sync_report {
-        None => run_whole(alloc, &graph, options, model),
-        Some(_) => run_divided(rt, alloc, graph, options, model, partition, ran),
+    let parts = part_count(spread, graph);
+    match assign(alloc, graph, parts, spread.how) {
+        Ok(partition) => Ok(partition),
+        Err(fault) => Err(undivided(alloc, fault)),
     }
 }
 
-/// Divides an accepted graph and runs its model as a plan's options ask.
-fn run_graph<T: Threads + Sync>(
+/// The start of each component, in order.
+fn start_events(alloc: Global, elements: &[Any]) -> Result<Vec<Event<Load>>, AllocError>
+    requires { length elements.now < 2 ^ 32 }
+    ensures { IfOk result (λ v. v.items ≡ starts {L = Load} 0 elements.now) }
+{
+    let mut events = Vec::new(alloc);
+    for (line, _) in elements.iter().enumerate() {
+        let key = Key {
+            time: 0,
+            class: START,
+            line: line as u32,
+        };
+        events.push(Event { key, load: None })?;
+    }
+    Ok(events)
+}
+
+/// A model at its start.
+fn started(alloc: Global, model: Model<Any>) -> Result<Saved<Any>, AllocError>
+    requires { length model.elements.items < 2 ^ 32 }
+    ensures { IfOk result (λ s. (s.time ≡ 0) × (s.last ≡ 0) × (s.model ≡ model) × (s.events.items ≡ starts {L = Load} 0 model.elements.items)) }
+{
+    let events = start_events(alloc, &model.elements)?;
+    Ok(Saved {
+        time: 0,
+        last: 0,
+        model,
+        events,
+    })
+}
+
+/// Runs an accepted graph from its start in the parts of a division, as options ask.
+fn run_started<T: Threads + Sync>(
     rt: &T,
     alloc: Global,
-    graph: Graph,
+    accepted: Accepted,
+    partition: Partition,
     options: &RunOptions,
-    model: Model<Any>,
+    ran: &mut Ran,
+) -> Result<Printed, AllocError>
+    requires accepted { IsRunnable accepted }
+    requires early { AreInRange options.now }
+    requires threads { 1 ≤ options.now.spread.threads }
+    requires divided { IsDivision accepted.graph options.now.spread partition }
+    ensures { IfOk result (HasRun accepted.graph origin.Start options.now (parts_of options.now.spread accepted.graph) ran.new.workers.items) }
+{
+    let Accepted { graph, model } = accepted;
+    let plain = is_plain(options, partition.parts());
+    let elements = &model.elements;
+    let spec = spec_of(graph, Origin::Start, partition, options, 0, elements);
+    if plain {
+        return run_plain(alloc, spec, model, options);
+    }
+    let saved = started(alloc, model)?;
+    run_divided(rt, alloc, spec, saved, options, ran)
+}
+
+/// Goes on from a checkpoint in the parts of a division, as options ask.
+fn run_recalled<T: Threads + Sync>(
+    rt: &T,
+    alloc: Global,
+    recalled: Recalled,
+    bytes: Vec<u8>,
+    partition: Partition,
+    options: &RunOptions,
+    ran: &mut Ran,
+) -> Result<Printed, AllocError>
+    requires recalled { IsRecalled bytes.items recalled }
+    requires early { AreInRange options.now }
+    requires threads { 1 ≤ options.now.spread.threads }
+    requires divided { IsDivision recalled.graph options.now.spread partition }
+    ensures { IfOk result (HasRun recalled.graph (origin.Saved bytes.items) options.now (parts_of options.now.spread recalled.graph) ran.new.workers.items) }
+{
+    let Recalled { graph, saved } = recalled;
+    let origin = Origin::Saved {
+        bytes: Items::from_vec(bytes),
+    };
+    let elements = &saved.model.elements;
+    let spec = spec_of(graph, origin, partition, options, saved.time, elements);
+    run_divided(rt, alloc, spec, saved, options, ran)
+}
+
+/// The graph of a text and its model, or why the text isn't accepted.
+fn accept(alloc: Global, text: &[u8]) -> Result<Accepted, Refusal>
+    ensures accepted { IfOk result (IsAcceptedText text.now) }
+    ensures refused { IfErr result (IsRefusedText text.now) }
+{
+    let graph = match read(alloc, text) {
+        Ok(graph) => graph,
+        Err(fault) => return Err(refused(fault)),
+    };
+    match make(alloc, &graph) {
+        Ok(model) => Ok(Accepted { graph, model }),
+        Err(fault) => Err(unmade(fault)),
+    }
+}
+
+/// Runs an accepted graph from its start, as options ask.
+fn run_accepted<T: Threads + Sync>(
+    rt: &T,
+    alloc: Global,
+    accepted: Accepted,
+    options: &RunOptions,
     ran: &mut Ran,
 ) -> Verdict
-    requires fit { IsFit graph }
-    requires early { IfSome options.now.stop_at (λ t. t ≤ 2 ^ 62) }
+    requires accepted { IsRunnable accepted }
+    requires early { AreInRange options.now }
     requires threads { 1 ≤ options.now.spread.threads }
-    requires made { record { elements = model.elements.items; wires = model.wires } ≡ model_of graph }
-    requires few { length model.elements.items < 2 ^ 32 }
-    requires safe { any_safe model.wires 0 (opening model.elements.items) }
-    requires checked { first_fault (make_checks graph) ≡ None }
-    requires order { PacketsStayInOrder graph (model_of graph) }
-    ensures { (name : List ℕ) → IsVerdict (plan.Run name options.now) graph accepted ran.new.workers.items result }
+    ensures { (name text : List ℕ) → IsAcceptedText text accepted → IsVerdict (AnswersText (plan.Run name options.now) text) (LeavesAccepted (plan.Run name options.now) (graph_of text) ran.new.workers.items) name result }
 {
-    let parts = part_count(&options.spread, &graph);
-    let partition = match assign(alloc, &graph, parts, options.spread.how) {
+    let partition = match division_of(alloc, &accepted.graph, &options.spread) {
         Ok(partition) => partition,
-        Err(fault) => return Verdict::Refused(undivided(alloc, fault)),
+        Err(refusal) => return Verdict::Refused(refusal),
     };
-    match run_parts(rt, alloc, graph, options, model, partition, ran) {
+    match run_started(rt, alloc, accepted, partition, options, ran) {
         Ok(printed) => Verdict::Ran(printed),
         Err(_) => Verdict::Refused(Refusal::NoMemory),
     }
 }
 
-/// Makes a graph, and does with it what a plan asks.
-fn answer_graph<T: Threads + Sync>(
+/// Goes on from a checkpoint that was recalled, as options ask.
+fn go_on<T: Threads + Sync>(
     rt: &T,
     alloc: Global,
-    plan: &Plan,
-    graph: Graph,
+    recalled: Recalled,
+    bytes: Vec<u8>,
+    options: &RunOptions,
     ran: &mut Ran,
 ) -> Verdict
-    requires fit { IsFit graph }
-    requires early { IsEarly plan.now }
-    requires threads { too_many_threads plan.now ≡ None }
-    ensures { IsVerdict plan.now graph (judged_made (first_fault (make_checks graph))) ran.new.workers.items result }
+    requires recalled { IsRecalled bytes.items recalled }
+    requires early { AreInRange options.now }
+    requires threads { 1 ≤ options.now.spread.threads }
+    ensures { (name : List ℕ) → IsVerdict (AnswersSaved name bytes.items options.now) (LeavesSaved bytes.items options.now ran.new.workers.items) name result }
 {
-    let model = match make(alloc, &graph) {
-        Ok(model) => model,
-        Err(fault) => return Verdict::Refused(unmade(fault)),
+    let partition = match division_of(alloc, &recalled.graph, &options.spread) {
+        Ok(partition) => partition,
+        Err(refusal) => return Verdict::Refused(refusal),
     };
-    match plan {
-        Plan::Run { options, .. } => run_graph(rt, alloc, graph, options, model, ran),
-        Plan::Check { .. } => match checked(alloc, &graph) {
-            Ok(texts) => Verdict::Listed(texts),
-            Err(_) => Verdict::Refused(Refusal::NoMemory),
-        },
-        Plan::Partition {
-            graph: name,
-            parts,
-            how,
-        } => divide(alloc, name.as_str(), &graph, parts.unwrap_or(1), *how),
+    match run_recalled(rt, alloc, recalled, bytes, partition, options, ran) {
+        Ok(printed) => Verdict::Ran(printed),
+        Err(_) => Verdict::Refused(Refusal::NoMemory),
     }
 }
 
-/// Judges a graph text, and does with its graph what a plan asks.
-pub fn answer_text<T: Threads + Sync>(
+/// Judges a graph text and runs its graph from the start, as options ask.
+fn run_text<T: Threads + Sync>(
+    rt: &T,
+    alloc: Global,
+    text: &[u8],
+    options: &RunOptions,
+    ran: &mut Ran,
+) -> Verdict
+    requires early { AreInRange options.now }
+    requires threads { 1 ≤ options.now.spread.threads }
+    ensures { (name : List ℕ) → IsVerdict (AnswersText (plan.Run name options.now) text.now) (LeavesAccepted (plan.Run name options.now) (graph_of text.now) ran.new.workers.items) name result }
+{
+    match accept(alloc, text) {
+        Ok(accepted) => run_accepted(rt, alloc, accepted, options, ran),
+        Err(refusal) => Verdict::Refused(refusal),
+    }
+}
+
+/// Judges the bytes of a checkpoint and goes on from it, as options ask.
+fn restart_from<T: Threads + Sync>(
+    rt: &T,
+    alloc: Global,
+    bytes: Vec<u8>,
+    options: &RunOptions,
+    ran: &mut Ran,
+) -> Verdict
+    requires early { AreInRange options.now }
+    requires threads { 1 ≤ options.now.spread.threads }
+    ensures { (name : List ℕ) → IsVerdict (AnswersSaved name bytes.items options.now) (LeavesSaved bytes.items options.now ran.new.workers.items) name result }
+{
+    match recall(alloc, bytes.as_slice()) {
+        Ok(recalled) => go_on(rt, alloc, recalled, bytes, options, ran),
+        Err(fault) => Verdict::Refused(unrecalled(fault)),
+    }
+}
+
+/// Judges a graph text, and says what its graph has.
+fn check_text(alloc: Global, text: &[u8]) -> Verdict
+    ensures { (name : List ℕ) (workers : List Working) → IsVerdict (AnswersText (plan.Check name) text.now) (LeavesAccepted (plan.Check name) (graph_of text.now) workers) name result }
+{
+    match accept(alloc, text) {
+        Ok(accepted) => match checked(alloc, &accepted.graph) {
+            Ok(texts) => Verdict::Listed(texts),
+            Err(_) => Verdict::Refused(Refusal::NoMemory),
+        },
+        Err(refusal) => Verdict::Refused(refusal),
+    }
+}
+
+/// Judges a graph text, and divides its graph.
+fn divide_text(alloc: Global, name: &str, text: &[u8], parts: Option<u32>, how: How) -> Verdict
+    ensures { (workers : List Working) → IsVerdict (AnswersText (plan.Partition name.now parts how) text.now) (LeavesAccepted (plan.Partition name.now parts how) (graph_of text.now) workers) name.now result }
+{
+    match accept(alloc, text) {
+        Ok(accepted) => divide(alloc, name, &accepted.graph, parts.unwrap_or(1), how),
+        Err(refusal) => Verdict::Refused(refusal),
+    }
+}
+
+/// Does with the bytes that were read what a plan asks.
+pub fn answer_read<T: Threads + Sync>(
     rt: &T,
     alloc: Global,
     plan: &Plan,
-    text: &[u8],
+    bytes: Vec<u8>,
     ran: &mut Ran,
 ) -> Verdict
     requires early { IsEarly plan.now }
     requires threads { too_many_threads plan.now ≡ None }
-    ensures { IsVerdict plan.now (graph_of text.now) (judge text.now) ran.new.workers.items result }
+    ensures { IsVerdict (AnswersRead plan.now bytes.items) (LeavesRead plan.now bytes.items ran.new.workers.items) (entry_name plan.now) result }
 {
-    match read(alloc, text) {
-        Ok(graph) => answer_graph(rt, alloc, plan, graph, ran),
-        Err(fault) => Verdict::Refused(refused(fault)),
+    match plan {
+        Plan::Run { options, .. } => run_text(rt, alloc, bytes.as_slice(), options, ran),
+        Plan::Restart { options, .. } => restart_from(rt, alloc, bytes, options, ran),
+        Plan::Check { .. } => check_text(alloc, bytes.as_slice()),
+        Plan::Partition { graph, parts, how } => {
+            divide_text(alloc, graph.as_str(), bytes.as_slice(), *parts, *how)
+        }
     }
 }

@@ -11,10 +11,10 @@ use std::test::Fail;
 use std::thread::Threads;
 
 /// A pinger of three rounds and an echo, joined by a link of 1 ns each way.
-const PING_PONG: &str =
+pub(super) const PING_PONG: &str =
     "{\"components\":[{\"name\":\"ping\",\"type\":\"core.pinger\",\"params\":{\"count\":3}},{\"name\":\"echo\",\"type\":\"core.echo\",\"params\":{}}],\"links\":[{\"name\":\"wire\",\"left\":{\"component\":\"ping\",\"port\":\"port\",\"latency\":\"1ns\"},\"right\":{\"component\":\"echo\",\"port\":\"port\",\"latency\":\"1ns\"}}]}";
 
-const PONGS: &str =
+pub(super) const PONGS: &str =
     "ping: pong 1 at 2000 ps\nping: pong 2 at 4000 ps\nping: pong 3 at 6000 ps\nSimulation is complete, simulated time: 1000000 ps\n";
 
 /// A pinger and an echo, joined by a link that takes no time on one side.
@@ -34,7 +34,11 @@ fn words_of(alloc: Global, line: &str) -> Result<Vec<Text>, AllocError> {
     Ok(words)
 }
 
-fn shelf_with(alloc: Global, graph: &str, fails: Vec<(u64, u64)>) -> Result<MemShelf, AllocError> {
+pub(super) fn shelf_with(
+    alloc: Global,
+    graph: &str,
+    fails: Vec<(u64, u64)>,
+) -> Result<MemShelf, AllocError> {
     let mut entries = Vec::new(alloc);
     let bytes = Vec::from_slice(alloc, graph.as_bytes())?;
     entries.push((Text::new(alloc, "g1.json")?, bytes))?;
@@ -43,7 +47,7 @@ fn shelf_with(alloc: Global, graph: &str, fails: Vec<(u64, u64)>) -> Result<MemS
 
 /// A call, and what it must leave.
 #[derive(Drop)]
-struct Case<'a> {
+pub(super) struct Case<'a> {
     line: &'a str,
     graph: &'a str,
     most: usize,
@@ -53,7 +57,7 @@ struct Case<'a> {
 }
 
 /// Runs a case over a shelf, with a sink that fails at the listed calls, and gives what it leaves.
-fn check_over<R: Abort + Threads + Sync>(
+pub(super) fn check_over<R: Abort + Threads + Sync>(
     rt: &R,
     alloc: Global,
     case: &Case,
@@ -83,7 +87,7 @@ fn check<R: Abort + Threads + Sync>(
     Ok(())
 }
 
-fn case_of<'a>(
+pub(super) fn case_of<'a>(
     line: &'a str,
     graph: &'a str,
     status: Status,

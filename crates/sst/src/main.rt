@@ -30,6 +30,7 @@ fn code(status: Status) -> u8 {
         Status::Text => 2,
         Status::Graph => 3,
         Status::Limit => 4,
+        Status::Checkpoint => 5,
         Status::ReadFault => 6,
         Status::WriteFault => 7,
         Status::NoMemory => 8,

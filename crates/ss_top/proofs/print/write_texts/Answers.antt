@@ -1,5 +1,5 @@
 use Rattle.std.proofs.Common.{arith}
-use Rattle.ss_top.proofs.Texts.{texts_next, texts_stop}
+use Rattle.ss_top.proofs.Written.{texts_next, texts_stop}
 use Rattle.ss_top.proofs.print.write_texts.Goals as goal
 
 pub returns-in-Err-clause-some : goal.returns-in-Err-clause-some
