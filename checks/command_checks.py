@@ -8,13 +8,17 @@ import tempfile
 
 import program
 
+# What a row's folder has: a graph, and a checkpoint of a graph that is equal to it.
+GIVEN = [("pingpong.json", "g.json"), ("checkpoint_5000.sstcpt", "c.sstcpt")]
+
 
 def main():
     rows = json.loads((pathlib.Path(__file__).parent / "commands.json").read_text())
     failed = 0
     for row in rows:
         with tempfile.TemporaryDirectory() as folder:
-            shutil.copy(program.TOP / "examples" / "pingpong.json", pathlib.Path(folder) / "g.json")
+            for given, name in GIVEN:
+                shutil.copy(program.TOP / "examples" / given, pathlib.Path(folder) / name)
             status, out, err = program.run(row["words"], folder)
         if (status, err) != (row["status"], row["says"]) or (out == "") != (status != 0):
             print("failed: %s\n  wanted %s\n  found  %s" % (row["words"], (row["status"], row["says"]), (status, out, err)))
