@@ -1,9 +1,10 @@
 -- The lines of networks with their ways back, and what events bring on them.
-use Rattle.std.specs.Prelude.{◌≡◌, ℕ, ◌<◌, Bool, true, false, List, slice_get, Option, Some, Result, Ok, Err}
+use Rattle.std.specs.Prelude.{◌≡◌, ℕ, ◌<◌, Bool, true, false, List, slice_get, slice_index, Option, Some, Result, Ok, Err}
 use Rattle.ss_model.specs.Wiring.{Wiring, of_line, link_at}
+use Rattle.ss_model.specs.declared.Event.{Event}
 use Rattle.ss_element.specs.Kind.{Kind}
 use Rattle.ss_safe.specs.Laws.{packet_flits, credit_flits}
-use Rattle.ss_safe.specs.Safe.{IsPair}
+use Rattle.ss_safe.specs.Safe.{total, weight_at, IsPair}
 use Rattle.ss_restart.specs.declared.fault.RestartFault.{RestartFault}
 use Rattle.ss_restart.specs.declared.fault.RestartFault.TheVariants as fault
 use Rattle.ss_restart.specs.declared.flows.Way.{Way}
@@ -13,6 +14,10 @@ use Rattle.ss_restart.specs.Faults.{IsFirst}
 abbrev pub flits_of : Bool → ℕ → Option (Bool × ℕ × ℕ) → ℕ
 flits_of true ch x = packet_flits ch x
 flits_of false ch x = credit_flits ch x
+
+-- the flits, channel by channel, that events bring on a line, as packets or as credits
+abbrev pub Counts : {L : Type 0} → (L → Option (Bool × ℕ × ℕ)) → Bool → ℕ → List (Event L) → List ℕ → Type 0
+Counts weighs packets line es flits = (ch : ℕ) → ch < 256 → slice_index flits ch ≡ total (weight_at (λ y. flits_of packets ch (weighs y)) line) es
 
 -- a line with its ends, and the first line out of the port into which it leads
 pub record IsWay (w : Wiring) (l : ℕ) (way : Way) : Type 0 where

@@ -1,11 +1,11 @@
 //! The balance of the lines of networks.
 
-ghost use Rattle.std.specs.Prelude.{◌≡◌, ◌<◌, ◌*◌, ◌^◌, ◌↔◌, ℕ, Bool, length, IsTrue, MatchOption};
+ghost use Rattle.std.specs.Prelude.{◌≡◌, ◌+◌, ◌-◌, ◌*◌, ◌^◌, ◌<◌, ◌≤◌, ◌↔◌, ℕ, Bool, true, false, length, slice_index, IsTrue, MatchOption};
 ghost use Rattle.ss_ckpt.specs.Views.{state_of};
-ghost use Rattle.ss_safe.specs.Safe.{total, weight_at};
+ghost use Rattle.ss_safe.specs.Safe.{weight_at};
 ghost use Rattle.ss_safe.specs.Sound.{ElementSound, FlowSound};
 ghost use Rattle.ss_restart.specs.declared.fault.RestartFault.TheVariants as fault;
-ghost use Rattle.ss_restart.specs.Flows.{flits_of, IsWay, NoWay, Joins, JudgesFlows};
+ghost use Rattle.ss_restart.specs.Flows.{flits_of, Counts, IsWay, NoWay, Joins, JudgesFlows};
 ghost use Rattle.ss_restart.specs.Ready.{IsReady, Judges};
 
 use crate::fault::RestartFault;
@@ -21,6 +21,13 @@ struct Way {
     out_port: u16,
     receiver: u32,
     in_port: u16,
+}
+
+/// The flits of each channel: of the packets on a line, and of the credits on its way back.
+#[derive(Drop)]
+struct Flits {
+    packets: [u64; 256],
+    credits: [u64; 256],
 }
 
 /// The key of what comes on a line.
@@ -57,51 +64,57 @@ fn way_of(wires: &Wires, line: u32) -> Option<Way>
     })
 }
 
-/// How many flits an event brings on a line and a channel, as a packet or as a credit.
-fn flits_at<L: Payload>(event: &Event<L>, line: u32, channel: u8, packets: bool) -> u64
-    ensures value { result ≡ weight_at (λ y. flits_of packets channel (L.weighs y)) line event.now }
-    ensures few { result < 2 ^ 32 }
+/// Adds what an event brings on a line to the flits of its channel, as a packet or as a credit.
+fn add_flits<L: Payload>(flits: &mut [u64; 256], event: &Event<L>, line: u32, packets: bool)
+    requires { (ch : ℕ) → ch < 256 → slice_index flits.old ch ≤ 2 ^ 32 * (2 ^ 32 - 1) }
+    ensures added { (ch : ℕ) → ch < 256 → slice_index flits.new ch ≡ slice_index flits.old ch + weight_at (λ y. flits_of packets ch (L.weighs y)) line event.now }
+    ensures few { (ch : ℕ) → ch < 256 → slice_index flits.new ch ≤ slice_index flits.old ch + 2 ^ 32 }
 {
     if event.key.class != ARRIVAL || event.key.line != line {
-        return 0;
+        return;
     }
     let Some(load) = event.load else {
-        return 0;
+        return;
     };
     match load.weight() {
-        Some((packet, on, flits)) if packet == packets && on == channel => u64::from(flits),
-        _ => 0,
+        Some((packet, channel, count)) if packet == packets => {
+            flits[channel as usize] += u64::from(count);
+        }
+        _ => {}
     }
 }
 
-/// How many flits events bring on a line and a channel, as packets or as credits.
-fn flits_on<L: Payload>(events: &[Event<L>], line: u32, channel: u8, packets: bool) -> u64
+/// The flits that events bring on a line as packets and on its way back as credits, each channel's.
+fn flits_on<L: Payload>(events: &[Event<L>], way: Way) -> Flits
     requires { length events.now < 2 ^ 32 }
-    ensures { result ≡ total (weight_at (λ y. flits_of packets channel (L.weighs y)) line) events.now }
+    ensures packets { Counts L.weighs true way.line events.now result.packets }
+    ensures credits { Counts L.weighs false way.back events.now result.credits }
 {
-    let mut flits = 0;
+    let mut packets = [0; 256];
+    let mut credits = [0; 256];
     for event in events {
-        flits += flits_at(event, line, channel, packets);
+        add_flits(&mut packets, event, way.line, true);
+        add_flits(&mut credits, event, way.back, false);
     }
-    flits
+    Flits { packets, credits }
 }
 
 /// Whether what a line's sender may send on a channel, what is under way, what the receiver's queue holds and what comes
 /// back are together what that queue can hold.
-fn is_balanced<E: Element>(saved: &Saved<E>, way: Way, channel: u8) -> bool
+fn is_balanced<E: Element>(saved: &Saved<E>, way: Way, flits: &Flits, channel: u8) -> bool
     requires ready { IsReady E.kind saved.now.model.wires saved.now.time (state_of saved.now) }
     requires fit { (c : ℕ) → ElementSound E.kind saved.now.model.wires saved.now.time (state_of saved.now) c }
     requires joins { Joins E.kind saved.now.model.wires saved.now.model.elements.items way channel }
+    requires packets { Counts E.Load.weighs true way.line saved.now.events.items flits.now.packets }
+    requires credits { Counts E.Load.weighs false way.back saved.now.events.items flits.now.credits }
     ensures { IsTrue result ↔ FlowSound E.kind saved.now.model.wires saved.now.time (state_of saved.now) way.line channel }
 {
     let sender = saved.model.elements[way.sender as usize].flow(way.out_port, channel);
     let receiver = saved.model.elements[way.receiver as usize].flow(way.in_port, channel);
-    let packets = flits_on(&saved.events, way.line, channel, true);
-    let credits = flits_on(&saved.events, way.back, channel, false);
     u128::from(sender.credits)
-        + u128::from(packets)
+        + u128::from(flits.packets[channel as usize])
         + u128::from(receiver.queued)
-        + u128::from(credits)
+        + u128::from(flits.credits[channel as usize])
         == u128::from(receiver.capacity)
 }
 
@@ -116,8 +129,12 @@ fn line_matches<E: Element>(saved: &Saved<E>, line: u32) -> Result<(), RestartFa
         return Ok(());
     };
     let channels = saved.model.elements[way.receiver as usize].channels(way.in_port);
+    if channels == 0 {
+        return Ok(());
+    }
+    let flits = flits_on(&saved.events, way);
     for channel in 0..channels {
-        if !is_balanced(saved, way, channel as u8) {
+        if !is_balanced(saved, way, &flits, channel as u8) {
             return Err(RestartFault::Unbalanced {
                 line,
                 channel: channel as u8,

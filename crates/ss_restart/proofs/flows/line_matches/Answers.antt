@@ -9,6 +9,12 @@ use Rattle.ss_restart.proofs.flows.line_matches.Goals as goal
 pub returns-in_default : goal.returns-in_default
 returns-in_default g c = λ i. no_flow g.E.Element.kind c.args.saved.now.model.wires c.args.saved.now.time (state_of c.args.saved.now) c.requires.ready c.args.line i c.in_default.ensures
 
+pub returns-then-channels-eq0 : goal.returns-then-channels-eq0
+returns-then-channels-eq0 g c =
+    let way = c.in-Some.way in
+    let gy = at_index c.args.saved.now.model.elements.items way.receiver c.index.result.now (receiver_below g.E.Element.kind c.args.saved.now.model.wires c.args.saved.now.time (state_of c.args.saved.now) c.requires.ready c.args.line way c.requires.within c.in-Some.ensures) c.index.ensures in
+    λ i. past_channels g.E.Element.kind c.args.saved.now.model.wires c.args.saved.now.time (state_of c.args.saved.now) c.requires.ready c.args.line i way c.index.result.now c.in-Some.ensures gy (omega (arith, c.channels-channels.ensures))
+
 pub overflow_cast-channel : goal.overflow_cast-channel
 overflow_cast-channel g c =
     let way = c.in-Some.way in
