@@ -39,10 +39,6 @@ pub of_err : {A E : Type 0} (r : Result A E) {P : Type 0} → P → OnErr r P
 of_err (Ok x) p = tt
 of_err (Err e) p = p
 
-pub on_err : {A E : Type 0} (r : Result A E) {P Q : Type 0} → OnErr r P → (P → Q) → OnErr r Q
-on_err (Ok x) p f = tt
-on_err (Err e) p f = f p
-
 module _ {L : Type 0} where
   latest_total : IsTotalOrder (latest_first {L = L})
   latest_total = search (comparing, rules) depth 12
@@ -59,11 +55,11 @@ module _ {L : Type 0} where
   in_left z (x ∷ xs) ys (inl e) = inl e
   in_left z (x ∷ xs) ys (inr i) = inr (in_left z xs ys i)
 
-  in_right : (z : Filed L) (xs ys : List (Filed L)) → In z ys → In z (xs ++ ys)
+  pub in_right : (z : Filed L) (xs ys : List (Filed L)) → In z ys → In z (xs ++ ys)
   in_right z [] ys i = i
   in_right z (x ∷ xs) ys i = inr (in_right z xs ys i)
 
-  in_either : (z : Filed L) (xs ys : List (Filed L)) → In z (xs ++ ys) → In z xs ⊎ In z ys
+  pub in_either : (z : Filed L) (xs ys : List (Filed L)) → In z (xs ++ ys) → In z xs ⊎ In z ys
   in_either z [] ys i = inr i
   in_either z (x ∷ xs) ys (inl e) = inl (inl e)
   in_either z (x ∷ xs) ys (inr i) = more (in_either z xs ys i)

@@ -1,5 +1,5 @@
 -- Events with their numbers, and the order in which they come.
-use Rattle.std.specs.Prelude.{◌≡◌, ◌⊎◌, ℕ, ◌<◌, ◌≤◌, ◌==◌, nat_lt, Bool, true, false, not, ◌&&◌, ◌||◌, List, [], ◌∷◌, ◌++◌, slice_index_or, Option, Some, None, if◌then◌else◌}
+use Rattle.std.specs.Prelude.{◌≡◌, ◌⊎◌, ℕ, zero, suc, ◌<◌, ◌≤◌, ◌==◌, nat_lt, Bool, true, false, not, ◌&&◌, ◌||◌, List, [], ◌∷◌, ◌++◌, slice_index_or, Option, Some, None, if◌then◌else◌}
 use Rattle.std.specs.List.{sum_by, AllByRecursion}
 use Rattle.std.specs.List.Sorted.{IsPermutation}
 use Rattle.std.specs.Ordering.{nat_cmp, on, flip_args, then_cmp}
@@ -75,10 +75,6 @@ module _ {L : Type 0} where
   FirstOf None xs = xs ≡ []
   FirstOf (Some x) xs = IsFirst x xs
 
-  -- there is a first, or nothing
-  abbrev pub HasFirst : List (Filed L) → Type 0
-  HasFirst xs = (o : Option (Filed L)) × FirstOf o xs
-
   -- the first of two
   abbrev pub leads : Option (Filed L) → Option (Filed L) → Bool
   leads None y = false
@@ -88,17 +84,12 @@ module _ {L : Type 0} where
   abbrev pub first_of : Option (Filed L) → Option (Filed L) → Option (Filed L)
   first_of x y = if leads x y then x else y
 
-  -- x goes ahead of the first
-  abbrev pub goes_ahead : Filed L → Option (Filed L) → Bool
-  goes_ahead x None = true
-  goes_ahead x (Some y) = is_before x y
-
   -- x is taken from old, of which it is a first, and new is left
   pub record Takes (x : Filed L) (old new : List (Filed L)) : Type 0 where
     pub left : IsPermutation old (x ∷ new)
     pub first : IsUpperBound latest_first x new
 
-  -- what lanes hold, and what the lane at a place does
+  -- what lanes hold, what the lane at a place does, and what the others do
   abbrev pub all : List (List (Filed L)) → List (Filed L)
   all [] = []
   all (xs ∷ more) = xs ++ all more
@@ -106,8 +97,42 @@ module _ {L : Type 0} where
   abbrev pub row : List (List (Filed L)) → ℕ → List (Filed L)
   row lanes i = slice_index_or lanes i []
 
-  -- the lane at a place has a first that is a first of all, or no lane has anything
-  pub record IsLeader (i : ℕ) (lanes : List (List (Filed L))) : Type 0 where
-    pub best : Option (Filed L)
-    pub there : FirstOf best (row lanes i)
-    pub first : FirstOf best (all lanes)
+  abbrev pub others : List (List (Filed L)) → ℕ → List (Filed L)
+  others [] i = []
+  others (xs ∷ more) zero = all more
+  others (xs ∷ more) (suc i) = xs ++ others more i
+
+  -- none of a list comes before a first of the other, which has one or has nothing
+  abbrev pub NotBefore : Filed L → Option (Filed L) → Type 0
+  NotBefore z None = ⊥
+  NotBefore z (Some x) = is_before z x ≡ false
+
+  abbrev pub IsLed : List (Filed L) → Option (Filed L) → Type 0
+  IsLed ys o = (z : Filed L) → In z ys → NotBefore z o
+
+  abbrev pub Leads : List (Filed L) → List (Filed L) → Type 0
+  Leads xs ys = (o : Option (Filed L)) × (FirstOf o xs × IsLed ys o)
+
+  -- each lane leads those from it on
+  abbrev pub AreInTurn : List (List (Filed L)) → Type 0
+  AreInTurn [] = Unit {0}
+  AreInTurn (xs ∷ more) = Leads xs (all more) × AreInTurn more
+
+  -- the same, but that the lane at a place may have to come forward
+  abbrev pub Rises : ℕ → List (List (Filed L)) → Type 0
+  Rises zero lanes = AreInTurn lanes
+  Rises (suc i) [] = Unit {0}
+  Rises (suc i) (xs ∷ more) = Leads xs (others more i) × Rises i more
+
+  -- the same, but that it may have to go back
+  abbrev pub Sinks : ℕ → List (List (Filed L)) → Type 0
+  Sinks i [] = Unit {0}
+  Sinks zero (xs ∷ more) = AreInTurn more
+  Sinks (suc i) (xs ∷ more) = Leads xs (all more) × Sinks i more
+
+  -- the lane at a place leads the next one, and the other way round
+  abbrev pub IsInTurn : ℕ → List (List (Filed L)) → Type 0
+  IsInTurn i lanes = Leads (row lanes i) (row lanes (suc i))
+
+  abbrev pub IsOutOfTurn : ℕ → List (List (Filed L)) → Type 0
+  IsOutOfTurn i lanes = Leads (row lanes (suc i)) (row lanes i)

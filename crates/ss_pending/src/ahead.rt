@@ -1,7 +1,7 @@
 //! A lane of which the first event is at hand.
 
 ghost use Rattle.std.specs.Prelude.{◌≡◌, [], ◌∷◌, ◌++◌, OnOk, OnErr, IfSome, IfNone, option_copied, IsPermutation};
-ghost use Rattle.ss_pending.specs.Filed.{FirstOf, HasFirst, Takes};
+ghost use Rattle.ss_pending.specs.Filed.{FirstOf, Takes};
 
 use crate::filed::Filed;
 use crate::lane::Lane;
@@ -82,7 +82,6 @@ impl<L> Ahead<L> {
         L: Copy + Drop,
         ensures some { IfSome result (λ x. Takes x self.old self.new) }
         ensures none { IfNone result ((self.old ≡ []) × (self.new ≡ [])) }
-        ensures first { HasFirst self.new }
     {
         let first = self.first?;
         self.first = self.rest.take();

@@ -3,7 +3,7 @@ use Rattle.ss_model.specs.Order.{insert}
 use Rattle.ss_pending.specs.Filed.{in_order}
 use Rattle.ss_pending.specs.Loads.{Kept, all_loaded, freed}
 use Rattle.ss_pending.proofs.Stored.{stored_kept, stored_list, back_list}
-use Rattle.ss_pending.proofs.Pending.insert.Goals as goal
+use Rattle.ss_pending.proofs.queue.Queue.insert.Goals as goal
 
 pub invariant_of-self-in-Ok : goal.invariant_of-self-in-Ok
 invariant_of-self-in-Ok g c =

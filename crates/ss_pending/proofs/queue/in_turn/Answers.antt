@@ -2,7 +2,7 @@ use Rattle.std.specs.BinaryHeap.{heap_items}
 use Rattle.ss_pending.specs.Filed.{in_order}
 use Rattle.ss_pending.proofs.Sorting.{taken, taken_different}
 use Rattle.ss_pending.proofs.Stored.{listed_loaded}
-use Rattle.ss_pending.proofs.in_turn.Goals as goal
+use Rattle.ss_pending.proofs.queue.in_turn.Goals as goal
 
 pub loop-first-preserved : goal.loop-first-preserved
 loop-first-preserved g c =

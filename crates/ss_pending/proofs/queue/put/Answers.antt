@@ -1,6 +1,6 @@
 use Rattle.ss_pending.proofs.Sorting.{pushed, pushed_different, pushed_below}
 use Rattle.ss_pending.proofs.Lanes.{on_ok}
-use Rattle.ss_pending.proofs.put.Goals as goal
+use Rattle.ss_pending.proofs.queue.put.Goals as goal
 
 pub returns-clause-ok : goal.returns-clause-ok
 returns-clause-ok g c = on_ok c.put.result c.put.ensures.ok (λ p. pushed c.args.filed _ _ p c.requires.different c.requires.below)

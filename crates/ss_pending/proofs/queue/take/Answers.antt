@@ -3,7 +3,7 @@ use Rattle.ss_pending.specs.Filed.{AllBelow, Different}
 use Rattle.ss_pending.proofs.Sorting.{taken, taken_different, taken_below}
 use Rattle.ss_pending.proofs.Lanes.{kept}
 use Rattle.ss_pending.proofs.Roads.{none_kept, none_in_order}
-use Rattle.ss_pending.proofs.take.Goals as goal
+use Rattle.ss_pending.proofs.queue.take.Goals as goal
 
 pub returns-clause-some : goal.returns-clause-some
 returns-clause-some g c = IfSome_then c.take.result c.take.ensures.some (λ x t. taken x _ _ t c.requires)
