@@ -12,70 +12,45 @@ use ss_model::{ARRIVAL, Action, Cause, Event, Key, Line, TICK};
 use ss_pending::Pending;
 use std::alloc::AllocError;
 
-// Does what one action asks for.
-fn carry_out<E: Element>(
+// Puts in what one action makes.
+#[inline(always)]
+fn put_made<E: Element>(
     wires: &Wires,
     component: u32,
-    key: Key,
-    action: Action<E::Load>,
+    now: u64,
+    action: &Action<E::Load>,
     pending: &mut Pending<E::Load>,
-    lines: &mut Vec<Line>,
 ) -> Result<(), AllocError>
-    requires early { key.time < 2 ^ 62 }
+    requires early { now < 2 ^ 62 }
     requires wires { WiringFits wires.now }
-    requires action { ActionFits action }
-    ensures pending { OnOk result (pending.new ≡ insert_all (made wires.now component key.time action) pending.old) }
-    ensures lines { OnOk result (lines.new.items ≡ lines.old.items ++ printed key (action ∷ [])) }
+    requires action { ActionFits action.now }
+    ensures { OnOk result (pending.new ≡ insert_all (made wires.now component now action.now) pending.old) }
 {
-    let now = key.time;
-    match action {
-        Action::Send { port, extra, load } => {
-            if let Some((line, latency)) = wires.line_from(component, port) {
-                let key = Key {
-                    time: now + extra + latency,
-                    class: ARRIVAL,
-                    line,
-                };
-                pending.insert(Event {
-                    key,
-                    load: Some(load),
-                })?;
-            }
-        }
+    let (time, class, line, load) = match action {
+        Action::Send { port, extra, load } => match wires.line_from(component, *port) {
+            Some((line, latency)) => (now + *extra + latency, ARRIVAL, line, Some(load)),
+            None => return Ok(()),
+        },
         Action::SelfSend {
             line: index,
             delay,
             load,
-        } => {
-            if let Some(line) = wires.own_from(component, index) {
-                let key = Key {
-                    time: now + delay,
-                    class: ARRIVAL,
-                    line,
-                };
-                pending.insert(Event {
-                    key,
-                    load: Some(load),
-                })?;
-            }
-        }
-        Action::ClockOn { clock } => {
-            if let Some((line, period)) = wires.clock_of(component, clock) {
-                let key = Key {
-                    time: now + (period - now % period),
-                    class: TICK,
-                    line,
-                };
-                pending.insert(Event { key, load: None })?;
-            }
-        }
-        Action::ClockOff { .. } => {}
-        Action::Print { text } => lines.push(Line { key, text })?,
-    }
-    Ok(())
+        } => match wires.own_from(component, *index) {
+            Some(line) => (now + *delay, ARRIVAL, line, Some(load)),
+            None => return Ok(()),
+        },
+        Action::ClockOn { clock } => match wires.clock_of(component, *clock) {
+            Some((line, period)) => (now + (period - now % period), TICK, line, None),
+            None => return Ok(()),
+        },
+        Action::ClockOff { .. } | Action::Print { .. } => return Ok(()),
+    };
+    let key = Key { time, class, line };
+    let load = load.copied();
+    pending.insert(Event { key, load })
 }
 
-// Does what the actions ask for, in order.
+// Does what the actions ask for, in order. A load is copied from its action into its event, and a text moves into its line.
 fn carry_out_all<E: Element>(
     wires: &Wires,
     component: u32,
@@ -90,8 +65,11 @@ fn carry_out_all<E: Element>(
     ensures pending { OnOk result (pending.new ≡ insert_all (made_all wires.now component key.time acts.old) pending.old) }
     ensures lines { OnOk result (lines.new.items ≡ lines.old.items ++ printed key acts.old) }
 {
-    while let Some(action) = acts.take() {
-        carry_out::<E>(wires, component, key, action, pending, lines)?;
+    while let Some(action) = acts.get(0) {
+        put_made::<E>(wires, component, key.time, action, pending)?;
+        if let Some(Action::Print { text }) = acts.take() {
+            lines.push(Line { key, text })?;
+        }
     }
     Ok(())
 }
