@@ -41,17 +41,18 @@ pub struct Pinger {
 
 impl Pinger {
     /// What is printed when a number comes back.
+    #[inline(never)]
     fn pong_text(&self, alloc: Global, n: u32, now: u64) -> Result<Text, AllocError>
         ensures { IfOk result (λ t. t ≡ pong_text self.now.name n now) }
     {
-        let name = self.name.as_str();
-        let mut digits = Buffer::new();
-        let mut text = String::with_capacity(alloc, name.len() + 64)?;
+        let (name, mut digits, mut times) = (self.name.as_str(), Buffer::new(), Buffer::new());
+        let (number, time) = (digits.format(n), times.format(now));
+        let mut text = String::with_capacity(alloc, name.len() + number.len() + time.len() + 15)?;
         text.push_str(name)?;
         text.push_str(": pong ")?;
-        text.push_str(digits.format(n))?;
+        text.push_str(number)?;
         text.push_str(" at ")?;
-        text.push_str(digits.format(now))?;
+        text.push_str(time)?;
         text.push_str(" ps\n")?;
         Ok(Text::from_string(text))
     }

@@ -57,35 +57,38 @@ fn port_label(port: u16) -> &'static str
 
 impl Ticker {
     /// What is printed at a tick.
+    #[inline(never)]
     fn tick_text(&self, alloc: Global, now: u64) -> Result<Text, AllocError>
         ensures { IfOk result (λ t. t ≡ tick_text self.now.name self.now.ticks now) }
     {
-        let name = self.name.as_str();
-        let mut digits = Buffer::new();
-        let mut text = String::with_capacity(alloc, name.len() + 64)?;
+        let (name, mut digits, mut times) = (self.name.as_str(), Buffer::new(), Buffer::new());
+        let (tick, time) = (digits.format(self.ticks), times.format(now));
+        let mut text = String::with_capacity(alloc, name.len() + tick.len() + time.len() + 15)?;
         text.push_str(name)?;
         text.push_str(": tick ")?;
-        text.push_str(digits.format(self.ticks))?;
+        text.push_str(tick)?;
         text.push_str(" at ")?;
-        text.push_str(digits.format(now))?;
+        text.push_str(time)?;
         text.push_str(" ps\n")?;
         Ok(Text::from_string(text))
     }
 
     /// What is printed when a number comes.
+    #[inline(never)]
     fn event_text(&self, alloc: Global, n: u32, port: u16, now: u64) -> Result<Text, AllocError>
         ensures { IfOk result (λ t. t ≡ event_text self.now.name n (port_label port) now) }
     {
-        let name = self.name.as_str();
-        let mut digits = Buffer::new();
-        let mut text = String::with_capacity(alloc, name.len() + 64)?;
+        let (name, mut digits, mut times) = (self.name.as_str(), Buffer::new(), Buffer::new());
+        let (number, time) = (digits.format(n), times.format(now));
+        let room = name.len() + number.len() + time.len() + 24;
+        let mut text = String::with_capacity(alloc, room)?;
         text.push_str(name)?;
         text.push_str(": event ")?;
-        text.push_str(digits.format(n))?;
+        text.push_str(number)?;
         text.push_str(" on ")?;
         text.push_str(port_label(port))?;
         text.push_str(" at ")?;
-        text.push_str(digits.format(now))?;
+        text.push_str(time)?;
         text.push_str(" ps\n")?;
         Ok(Text::from_string(text))
     }

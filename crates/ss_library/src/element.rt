@@ -15,6 +15,7 @@ ghost use Rattle.ss_library.specs.declared.table.KindName.TheVariants as kind;
 ghost use Rattle.ss_library.specs.Stats.{empty_stats};
 ghost use Rattle.ss_library.specs.Make.{rows_by, stats_by, rest_by, component_checks, components_checks, pinger_of, echo_of, ticker_of, member_of, any_nic, begun_by, begun, begun_from};
 
+use crate::housed::Housed;
 use crate::kinds::Any;
 use crate::param::param_at;
 use crate::stats::set_of;
@@ -194,7 +195,7 @@ fn nic_from(
     match work {
         Work::Messages { count, verbose } => {
             let nic = TestNic::new(alloc, set, count, flits, verbose, stats)?;
-            Ok(Any::TestNic(nic))
+            Ok(Any::TestNic(Housed::new(alloc, nic)?))
         }
         Work::Packets {
             count,
@@ -204,7 +205,7 @@ fn nic_from(
             hot,
         } => {
             let nic = TrafficGen::new(alloc, set, pattern, count, flits, vn, seed, hot, stats)?;
-            Ok(Any::TrafficGen(nic))
+            Ok(Any::TrafficGen(Housed::new(alloc, nic)?))
         }
     }
 }
@@ -228,7 +229,7 @@ fn router_begun(
 {
     let (router, stats) = router_in(alloc, part, index)?;
     let router = router_from(alloc, wires, members, index as u32, router, most, stats)?;
-    Ok(Any::Router(router))
+    Ok(Any::Router(Housed::new(alloc, router)?))
 }
 
 /// The endpoint that asks for this, component `index`, as a run begins.

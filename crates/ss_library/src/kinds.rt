@@ -1,5 +1,6 @@
 //! An element of one of the kinds.
 
+use crate::housed::Housed;
 use mr_flow::Load;
 use mr_nic::{TestNic, TrafficGen};
 use mr_router::Router;
@@ -17,9 +18,9 @@ pub enum Any {
     Pinger(Pinger),
     Echo(Echo),
     Ticker(Ticker),
-    TestNic(TestNic),
-    TrafficGen(TrafficGen),
-    Router(Router),
+    TestNic(Housed<TestNic>),
+    TrafficGen(Housed<TrafficGen>),
+    Router(Housed<Router>),
 }
 
 impl Element for Any {
@@ -49,9 +50,9 @@ impl Element for Any {
             Any::Pinger(pinger) => pinger.handle(now, cause, acts),
             Any::Echo(echo) => echo.handle(now, cause, acts),
             Any::Ticker(ticker) => ticker.handle(now, cause, acts),
-            Any::TestNic(nic) => nic.handle(now, cause, acts),
-            Any::TrafficGen(traffic) => traffic.handle(now, cause, acts),
-            Any::Router(router) => router.handle(now, cause, acts),
+            Any::TestNic(nic) => nic.get_mut().handle(now, cause, acts),
+            Any::TrafficGen(traffic) => traffic.get_mut().handle(now, cause, acts),
+            Any::Router(router) => router.get_mut().handle(now, cause, acts),
         }
     }
 
@@ -60,9 +61,9 @@ impl Element for Any {
             Any::Pinger(pinger) => pinger.save(out),
             Any::Echo(echo) => echo.save(out),
             Any::Ticker(ticker) => ticker.save(out),
-            Any::TestNic(nic) => nic.save(out),
-            Any::TrafficGen(traffic) => traffic.save(out),
-            Any::Router(router) => router.save(out),
+            Any::TestNic(nic) => nic.get().save(out),
+            Any::TrafficGen(traffic) => traffic.get().save(out),
+            Any::Router(router) => router.get().save(out),
         }
     }
 
@@ -72,9 +73,9 @@ impl Element for Any {
             Any::Pinger(pinger) => pinger.restore(alloc, bytes),
             Any::Echo(echo) => echo.restore(alloc, bytes),
             Any::Ticker(ticker) => ticker.restore(alloc, bytes),
-            Any::TestNic(nic) => nic.restore(alloc, bytes),
-            Any::TrafficGen(traffic) => traffic.restore(alloc, bytes),
-            Any::Router(router) => router.restore(alloc, bytes),
+            Any::TestNic(nic) => nic.get_mut().restore(alloc, bytes),
+            Any::TrafficGen(traffic) => traffic.get_mut().restore(alloc, bytes),
+            Any::Router(router) => router.get_mut().restore(alloc, bytes),
         }
     }
 
@@ -83,9 +84,9 @@ impl Element for Any {
             Any::Pinger(pinger) => pinger.read_load(bytes),
             Any::Echo(echo) => echo.read_load(bytes),
             Any::Ticker(ticker) => ticker.read_load(bytes),
-            Any::TestNic(nic) => nic.read_load(bytes),
-            Any::TrafficGen(traffic) => traffic.read_load(bytes),
-            Any::Router(router) => router.read_load(bytes),
+            Any::TestNic(nic) => nic.get().read_load(bytes),
+            Any::TrafficGen(traffic) => traffic.get().read_load(bytes),
+            Any::Router(router) => router.get().read_load(bytes),
         }
     }
 
@@ -94,9 +95,9 @@ impl Element for Any {
             Any::Pinger(pinger) => pinger.fits(at),
             Any::Echo(echo) => echo.fits(at),
             Any::Ticker(ticker) => ticker.fits(at),
-            Any::TestNic(nic) => nic.fits(at),
-            Any::TrafficGen(traffic) => traffic.fits(at),
-            Any::Router(router) => router.fits(at),
+            Any::TestNic(nic) => nic.get().fits(at),
+            Any::TrafficGen(traffic) => traffic.get().fits(at),
+            Any::Router(router) => router.get().fits(at),
         }
     }
 
@@ -105,9 +106,9 @@ impl Element for Any {
             Any::Pinger(pinger) => pinger.fits_load(cause, at),
             Any::Echo(echo) => echo.fits_load(cause, at),
             Any::Ticker(ticker) => ticker.fits_load(cause, at),
-            Any::TestNic(nic) => nic.fits_load(cause, at),
-            Any::TrafficGen(traffic) => traffic.fits_load(cause, at),
-            Any::Router(router) => router.fits_load(cause, at),
+            Any::TestNic(nic) => nic.get().fits_load(cause, at),
+            Any::TrafficGen(traffic) => traffic.get().fits_load(cause, at),
+            Any::Router(router) => router.get().fits_load(cause, at),
         }
     }
 
@@ -116,9 +117,9 @@ impl Element for Any {
             Any::Pinger(pinger) => pinger.is_primary(),
             Any::Echo(echo) => echo.is_primary(),
             Any::Ticker(ticker) => ticker.is_primary(),
-            Any::TestNic(nic) => nic.is_primary(),
-            Any::TrafficGen(traffic) => traffic.is_primary(),
-            Any::Router(router) => router.is_primary(),
+            Any::TestNic(nic) => nic.get().is_primary(),
+            Any::TrafficGen(traffic) => traffic.get().is_primary(),
+            Any::Router(router) => router.get().is_primary(),
         }
     }
 
@@ -127,9 +128,9 @@ impl Element for Any {
             Any::Pinger(pinger) => pinger.is_done(),
             Any::Echo(echo) => echo.is_done(),
             Any::Ticker(ticker) => ticker.is_done(),
-            Any::TestNic(nic) => nic.is_done(),
-            Any::TrafficGen(traffic) => traffic.is_done(),
-            Any::Router(router) => router.is_done(),
+            Any::TestNic(nic) => nic.get().is_done(),
+            Any::TrafficGen(traffic) => traffic.get().is_done(),
+            Any::Router(router) => router.get().is_done(),
         }
     }
 
@@ -138,9 +139,9 @@ impl Element for Any {
             Any::Pinger(pinger) => pinger.clock_on(clock),
             Any::Echo(echo) => echo.clock_on(clock),
             Any::Ticker(ticker) => ticker.clock_on(clock),
-            Any::TestNic(nic) => nic.clock_on(clock),
-            Any::TrafficGen(traffic) => traffic.clock_on(clock),
-            Any::Router(router) => router.clock_on(clock),
+            Any::TestNic(nic) => nic.get().clock_on(clock),
+            Any::TrafficGen(traffic) => traffic.get().clock_on(clock),
+            Any::Router(router) => router.get().clock_on(clock),
         }
     }
 
@@ -149,9 +150,9 @@ impl Element for Any {
             Any::Pinger(pinger) => pinger.channels(port),
             Any::Echo(echo) => echo.channels(port),
             Any::Ticker(ticker) => ticker.channels(port),
-            Any::TestNic(nic) => nic.channels(port),
-            Any::TrafficGen(traffic) => traffic.channels(port),
-            Any::Router(router) => router.channels(port),
+            Any::TestNic(nic) => nic.get().channels(port),
+            Any::TrafficGen(traffic) => traffic.get().channels(port),
+            Any::Router(router) => router.get().channels(port),
         }
     }
 
@@ -160,9 +161,9 @@ impl Element for Any {
             Any::Pinger(pinger) => pinger.flow(port, channel),
             Any::Echo(echo) => echo.flow(port, channel),
             Any::Ticker(ticker) => ticker.flow(port, channel),
-            Any::TestNic(nic) => nic.flow(port, channel),
-            Any::TrafficGen(traffic) => traffic.flow(port, channel),
-            Any::Router(router) => router.flow(port, channel),
+            Any::TestNic(nic) => nic.get().flow(port, channel),
+            Any::TrafficGen(traffic) => traffic.get().flow(port, channel),
+            Any::Router(router) => router.get().flow(port, channel),
         }
     }
 
@@ -171,9 +172,9 @@ impl Element for Any {
             Any::Pinger(pinger) => pinger.stats(),
             Any::Echo(echo) => echo.stats(),
             Any::Ticker(ticker) => ticker.stats(),
-            Any::TestNic(nic) => nic.stats(),
-            Any::TrafficGen(traffic) => traffic.stats(),
-            Any::Router(router) => router.stats(),
+            Any::TestNic(nic) => nic.get().stats(),
+            Any::TrafficGen(traffic) => traffic.get().stats(),
+            Any::Router(router) => router.get().stats(),
         }
     }
 }

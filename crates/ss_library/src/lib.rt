@@ -2,6 +2,7 @@
 #![tactic(auto)]
 
 mod element;
+mod housed;
 mod kinds;
 mod making;
 #[cfg(test)]
@@ -14,6 +15,7 @@ mod table;
 #[cfg(test)]
 mod tests;
 
+pub use housed::Housed;
 pub use kinds::Any;
 pub use making::make;
 pub use mr_flow::Load;

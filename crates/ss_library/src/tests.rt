@@ -5,7 +5,7 @@ ghost use Rattle.std.specs.List.{All, IsDistinct};
 ghost use Rattle.ss_graph.specs.Links.{same_end};
 ghost use Rattle.ss_graph.specs.Fit.{IsFit, IsSoundLink, ends_of};
 
-use crate::{Any, Load, MakeFault, make};
+use crate::{Any, Housed, Load, MakeFault, make};
 use mr_link::NicSettings;
 use mr_nic::TestNic;
 use ss_element::{Action, Acts, Cause, Element, Model, RestoreFault};
@@ -69,7 +69,7 @@ fn an_endpoint_begins(rt: HostRuntime) -> Result<(), Fail> {
         least: 8,
     };
     let nic = TestNic::new(rt.alloc(), set, 1, 4, true, StatSet::new(rt.alloc()))?;
-    let mut element = Any::TestNic(nic);
+    let mut element = Any::TestNic(Housed::new(rt.alloc(), nic)?);
     assert!(rt; element.is_primary() && !element.is_done() && element.fits(1));
     assert_eq!(rt; (element.channels(0), element.channels(1)), (1, 0));
     let load = Load::Core { n: 1 };
