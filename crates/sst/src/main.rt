@@ -3,7 +3,7 @@
 
 mod edge;
 
-use edge::{FileShelf, WriterSink};
+use edge::{FileShelf, Held, HeldSink, TiedSink};
 use ss_edge::Sink;
 use ss_top::{Message, Ran, Status, sst_here, tell, tell_plain};
 use ss_units::Text;
@@ -53,13 +53,28 @@ fn words_or_end<R: Env + AllocGlobal, W: Sink>(rt: &R, err: &mut W) -> Result<Ve
     }
 }
 
+/// How the call ends once what was held back has gone out, or could not.
+fn flushed<W: Sink>(status: Status, went_out: bool, err: &mut W) -> Status {
+    if went_out || matches!(status, Status::WriteFault) {
+        return status;
+    }
+    tell_plain(err, Message::OutputFault);
+    Status::WriteFault
+}
+
 fn main(rt: HostRuntime) -> ExitCode {
-    let mut err = WriterSink::new(rt.stderr());
+    let held = Held::new(rt.alloc(), io::writer(&rt));
+    let before = held.as_ref().ok();
+    let mut err = TiedSink::new(rt.stderr(), before);
+    let Some(held) = before else {
+        tell_plain(&mut err, Message::NoMemory);
+        return ExitCode::from(code(Status::NoMemory));
+    };
     let status = match words_or_end(&rt, &mut err) {
         Err(status) => status,
         Ok(words) => {
-            let mut shelf = FileShelf::new(&rt);
-            let mut out = WriterSink::new(io::writer(&rt));
+            let mut shelf = FileShelf::new(&rt, held);
+            let mut out = HeldSink::new(held);
             let mut ran = Ran::new(rt.alloc());
             sst_here(
                 &rt,
@@ -72,5 +87,6 @@ fn main(rt: HostRuntime) -> ExitCode {
             )
         }
     };
-    ExitCode::from(code(status))
+    let went_out = held.flush().is_ok();
+    ExitCode::from(code(flushed(status, went_out, &mut err)))
 }
