@@ -77,10 +77,6 @@ get-known (Some m) name bytes h = h
 abbrev pub outside_of : Option Contents → Option (List ℕ) → Outside
 outside_of held out = record { held = held; out = out }
 
-pub steps-append : (xs ys : List Step) (o : Outside) → after_steps (xs ++ ys) o ≡ after_steps ys (after_steps xs o)
-steps-append [] ys o = refl
-steps-append (x ∷ xs) ys o = steps-append xs ys (after_step x o)
-
 -- ---- what a call comes to
 
 never-misspelled : (f : CkptFault) → misspelled_by f ≡ Some accepted → ⊥

@@ -1,4 +1,4 @@
--- What a graph text is, and what the run of its graph prints.
+-- What a graph text is: what reading and making it, and dividing what is made, come to.
 use Rattle.std.specs.Prelude.{ℕ, ◌==◌, ◌^◌, List, Option, Some, None, if◌then◌else◌, codes}
 use Rattle.ss_model.specs.End.{Behaviour, Limits}
 use Rattle.ss_element.specs.Kind.{behaviour}
