@@ -1,6 +1,6 @@
 //! A lane of which the first event is at hand.
 
-ghost use Rattle.std.specs.Prelude.{◌≡◌, [], ◌∷◌, ◌++◌, OnOk, OnErr, IfSome, IfNone, option_copied, IsPermutation};
+ghost use Rattle.std.specs.Prelude.{◌≡◌, [], ◌∷◌, ◌++◌, OnOk, OnErr, IfOk, IfSome, IfNone, option_copied, IsPermutation};
 ghost use Rattle.ss_pending.specs.Filed.{FirstOf, Takes};
 
 use crate::filed::Filed;
@@ -12,7 +12,9 @@ use std::marker::Model;
 #[derive(Drop)]
 pub struct Ahead<L> {
     first: Option<Filed<L>>,
-    rest: Lane<L>,
+    // The sort of events that it was made for.
+    sort: u64,
+    rest: Box<Lane<L>>,
 }
 
 impl<L> Model for Ahead<L> {
@@ -22,25 +24,28 @@ impl<L> Model for Ahead<L> {
 
     ghost Value = { List (Filed L) };
 
-    ghost view = { λ a. option_to_list a.first ++ a.rest };
+    ghost view = { λ a. option_to_list a.first ++ a.rest.value };
 
-    ghost invariant = { λ a. FirstOf a.first (option_to_list a.first ++ a.rest) };
+    ghost invariant = { λ a. FirstOf a.first (option_to_list a.first ++ a.rest.value) };
 }
 
 impl<L> Ahead<L> {
-    /// No events, of which a sort is to come. It takes no memory.
-    pub fn new(alloc: Global, sort: u64) -> Self
-        ensures { result ≡ [] }
+    /// No events, of which a sort is to come.
+    pub fn new(alloc: Global, sort: u64) -> Result<Self, AllocError>
+    where
+        L: Drop,
+        ensures { IfOk result (λ a. a ≡ []) }
     {
-        Ahead {
+        Ok(Ahead {
             first: None,
-            rest: Lane::new(alloc, sort),
-        }
+            sort,
+            rest: Box::new(alloc, Lane::new(alloc))?,
+        })
     }
 
     /// Whether it was made for a sort of events.
     pub fn is_for(&self, sort: u64) -> bool {
-        self.rest.is_for(sort)
+        self.sort == sort
     }
 
     /// The first event.

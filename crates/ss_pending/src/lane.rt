@@ -23,8 +23,6 @@ pub fn leads<L>(first: Option<&Filed<L>>, second: Option<&Filed<L>>) -> bool
 /// Events of which most are put in in the order in which they come: those stand in a run, and the others in a heap.
 #[derive(Drop)]
 pub struct Lane<L> {
-    // The sort of events that it was made for.
-    sort: u64,
     run: VecDeque<Filed<L>>,
     heap: BinaryHeap<Filed<L>>,
 }
@@ -136,20 +134,14 @@ pub fn first_of<'a, L>(
 }
 
 impl<L> Lane<L> {
-    /// No events, of which a sort is to come. It takes no memory.
-    pub fn new(alloc: Global, sort: u64) -> Self
+    /// No events. It takes no memory.
+    pub fn new(alloc: Global) -> Self
         ensures { result ≡ [] }
     {
         Lane {
-            sort,
             run: VecDeque::new(alloc),
             heap: BinaryHeap::new(alloc),
         }
-    }
-
-    /// Whether it was made for a sort of events.
-    pub fn is_for(&self, sort: u64) -> bool {
-        self.sort == sort
     }
 
     /// The first event.

@@ -92,7 +92,7 @@ fn place_for<L: Drop>(
     }
     let count = lanes.len();
     if count < MOST {
-        lanes.push(Ahead::new(alloc, sort))?;
+        lanes.push(Ahead::new(alloc, sort)?)?;
         return Ok(count);
     }
     Ok((sort % count as u64) as usize)
