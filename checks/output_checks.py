@@ -1,5 +1,5 @@
-"""Checks what the program hands to the system and when: output that can't be written ends a call with status 7, and what was
-printed before a file is put, or before a message, is out before it."""
+"""Checks what the program hands to the system and when: output that can't be written ends a call with status 7 and one line, no file
+is put behind it, and what was printed before a file is put, or before a message, is out before it."""
 
 import json
 import os
@@ -23,11 +23,12 @@ def many(folder):
     (pathlib.Path(folder) / "many.json").write_text(json.dumps({"components": [ticker]}))
 
 
-def to_full(folder, graph):
-    """The status and the error lines of a run whose output a full device takes."""
+def to_full(folder, words):
+    """The status and the error lines of a call whose output a full device takes, and the files that it put."""
+    before = set(os.listdir(folder))
     with open("/dev/full", "wb") as full:
-        ran = subprocess.run([str(program.PROGRAM), "run", graph], cwd=folder, stdout=full, stderr=subprocess.PIPE)
-    return ran.returncode, ran.stderr.decode()
+        ran = subprocess.run([str(program.PROGRAM)] + words, cwd=folder, stdout=full, stderr=subprocess.PIPE)
+    return ran.returncode, ran.stderr.decode(), sorted(set(os.listdir(folder)) - before)
 
 
 def in_one(folder, words):
@@ -57,11 +58,14 @@ def main():
     with tempfile.TemporaryDirectory() as folder:
         shutil.copy(program.TOP / "examples" / "pingpong.json", os.path.join(folder, "g.json"))
         many(folder)
-        fault = (7, "sst: write fault: output\n")
+        fault = (7, "sst: write fault: output\n", [])
         lost = (7, FIRST + "sst: write fault: no/where_5000.sstcpt\n")
         rows = [
-            ("a short output that can't be written", fault, to_full(folder, "g.json")),
-            ("a long output that can't be written", fault, to_full(folder, "many.json")),
+            ("a short output that can't be written", fault, to_full(folder, ["run", "g.json"])),
+            ("a long output that can't be written", fault, to_full(folder, ["run", "many.json"])),
+            ("statistics behind lost output", fault, to_full(folder, ["run", "g.json", "--stats=s.csv"])),
+            ("a checkpoint behind lost output", fault, to_full(folder, SAVED)),
+            ("a fault behind lost output", fault, to_full(folder, SAVED + ["--checkpoint-prefix=no/where"])),
             ("lines before a message", lost, in_one(folder, SAVED + ["--checkpoint-prefix=no/where"])),
             ("lines before a checkpoint", (FIRST, FIRST + REST), seen_before_put(folder)),
         ]

@@ -4,7 +4,7 @@ ghost use Rattle.std.specs.Prelude.{None, ◌≤◌, IfSome, length};
 
 use ss_edge::{Failed, Shelf, Sink};
 use std::alloc::Global;
-use std::cell::RefCell;
+use std::cell::{Cell, RefCell};
 use std::fs::File;
 use std::io::{self, BufWriter, Write};
 use std::os::unix::fs::FileExt;
@@ -14,10 +14,11 @@ use std::rt::Files;
 const ROOM: usize = 65_536;
 
 /// A writer that holds back what it is given until there is much of it. What is to be seen behind it, such as a file or a
-/// message, flushes it first.
+/// message, flushes it first. Once a write fails, what was held back is lost: all that comes later fails, too.
 #[derive(Drop)]
 pub struct Held<W: Write + Drop> {
     to: RefCell<BufWriter<W, Global>>,
+    lost: Cell<bool>,
 }
 
 impl<W: Write + Drop> Held<W> {
@@ -25,16 +26,19 @@ impl<W: Write + Drop> Held<W> {
         let to = BufWriter::with_capacity(alloc, ROOM, to)?;
         Ok(Held {
             to: RefCell::new(to),
+            lost: Cell::new(false),
         })
     }
 
     /// Writes what is held back.
     pub fn flush(&self) -> Result<(), Failed> {
-        if let Ok(mut to) = self.to.try_borrow_mut()
+        if !self.lost.get()
+            && let Ok(mut to) = self.to.try_borrow_mut()
             && to.flush().is_ok()
         {
             return Ok(());
         }
+        self.lost.set(true);
         Err(Failed)
     }
 
@@ -42,14 +46,19 @@ impl<W: Write + Drop> Held<W> {
     fn take(&self, piece: &[u8]) -> Option<usize>
         ensures { IfSome result (λ n. n ≤ length piece.now) }
     {
-        match self.to.try_borrow_mut() {
-            Ok(mut to) => to.write(piece).ok(),
-            Err(_) => None,
+        if !self.lost.get()
+            && let Ok(mut to) = self.to.try_borrow_mut()
+            && let Ok(n) = to.write(piece)
+        {
+            return Some(n);
         }
+        self.lost.set(true);
+        None
     }
 }
 
-/// Files as a shelf, which tells nothing of what they hold. What was written before a put goes out before it.
+/// Files as a shelf, which tells nothing of what they hold. What was written before a put goes out before it, and no file is
+/// put behind output that was lost.
 #[derive(Drop)]
 pub struct FileShelf<'a, R: Files, W: Write + Drop> {
     rt: &'a R,
@@ -85,9 +94,7 @@ impl<R: Files<File = File>, W: Write + Drop> Shelf for FileShelf<'_, R, W> {
     }
 
     fn put(&mut self, name: &str, bytes: &[u8]) -> Result<(), Failed> {
-        // Where this fails, the bytes stay held back, and the next flush tells.
-        let _ = self.before.flush();
-        if std::fs::write(self.rt, name, bytes).is_ok() {
+        if self.before.flush().is_ok() && std::fs::write(self.rt, name, bytes).is_ok() {
             return Ok(());
         }
         self.faults = self.faults.saturating_add(1);
@@ -125,7 +132,7 @@ impl<W: Write + Drop> Sink for HeldSink<'_, W> {
 }
 
 /// A writer as a sink, which tells nothing of what it took. What another writer holds back, if there is one, goes out before
-/// its pieces.
+/// its pieces. Where that was lost, its pieces go nowhere: that loss is all there is to tell, and `main` tells it.
 #[derive(Drop)]
 pub struct TiedSink<'a, E: Write, W: Write + Drop> {
     to: E,
@@ -141,6 +148,11 @@ impl<'a, E: Write, W: Write + Drop> TiedSink<'a, E, W> {
             faults: 0,
         }
     }
+
+    /// From now on no writer's bytes go out before its pieces.
+    pub fn untie(&mut self) {
+        self.before = None;
+    }
 }
 
 impl<E: Write, W: Write + Drop> Sink for TiedSink<'_, E, W> {
@@ -149,9 +161,10 @@ impl<E: Write, W: Write + Drop> Sink for TiedSink<'_, E, W> {
     ghost faults = { λ s. s.faults };
 
     fn write(&mut self, piece: &[u8]) -> Result<usize, Failed> {
-        if let Some(before) = self.before {
-            // Where this fails, the bytes stay held back, and the next flush tells.
-            let _ = before.flush();
+        if let Some(before) = self.before
+            && before.flush().is_err()
+        {
+            return Ok(piece.len());
         }
         if let Ok(n) = self.to.write(piece)
             && (n > 0 || piece.is_empty())

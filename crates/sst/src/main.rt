@@ -53,9 +53,9 @@ fn words_or_end<R: Env + AllocGlobal, W: Sink>(rt: &R, err: &mut W) -> Result<Ve
     }
 }
 
-/// How the call ends once what was held back has gone out, or could not.
+/// How the call ends once what was held back has gone out. Where that was lost, nothing was told yet.
 fn flushed<W: Sink>(status: Status, went_out: bool, err: &mut W) -> Status {
-    if went_out || matches!(status, Status::WriteFault) {
+    if went_out {
         return status;
     }
     tell_plain(err, Message::OutputFault);
@@ -88,5 +88,6 @@ fn main(rt: HostRuntime) -> ExitCode {
         }
     };
     let went_out = held.flush().is_ok();
+    err.untie();
     ExitCode::from(code(flushed(status, went_out, &mut err)))
 }
