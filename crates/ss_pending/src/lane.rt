@@ -79,6 +79,7 @@ pub fn take_top<L>(heap: &mut BinaryHeap<Filed<L>>) -> Option<Filed<L>>
 }
 
 // Puts an event behind those of a run.
+#[inline(always)]
 fn push_back<L: Drop>(run: &mut VecDeque<Filed<L>>, filed: Filed<L>) -> Result<(), AllocError>
     ensures ok { OnOk result (run.new.items ≡ run.old.items ++ filed ∷ []) }
     ensures err { OnErr result (run.new.items ≡ run.old.items) }

@@ -1,7 +1,7 @@
 //! The events that are to come, in order.
 #![tactic(auto)]
 
-ghost use Rattle.std.specs.Prelude.{◌≡◌, ◌<◌, [], ◌∷◌, ◌==◌, OnOk, OnErr, false, length, IfSome, IfNone, IfOk};
+ghost use Rattle.std.specs.Prelude.{◌≡◌, ◌<◌, [], ◌∷◌, ◌==◌, OnOk, OnErr, false, length, IfSome, IfNone, IfOk, option_copied};
 ghost use Rattle.ss_model.specs.Order.{insert, next_time, begins_before};
 ghost use Rattle.ss_pending.specs.Near.{ahead, with_near, leads, begins, AllBefore};
 
@@ -103,18 +103,30 @@ impl<L> Pending<L> {
     /// Puts in an event, behind those with its key. It fails only where no memory is left, where 2^64 - 1 events were put
     /// in before it, or where 2^32 - 1 events with a load stand already, and then changes nothing.
     #[inline(always)]
-    #[tactic(auto, using(crate::proofs::Nearness::near_inserts))]
     pub fn insert(&mut self, event: Event<L>) -> Result<(), AllocError>
     where
         L: Copy + Drop,
         ensures ok { OnOk result (self.new ≡ insert event self.old) }
         ensures err { OnErr result (self.new ≡ self.old) }
     {
+        self.insert_copied(event.key, event.load.as_ref())
+    }
+
+    /// Puts in an event with a copy of a load, as `insert` does.
+    #[inline(always)]
+    #[tactic(auto, using(crate::proofs::Nearness::near_inserts))]
+    pub fn insert_copied(&mut self, key: Key, load: Option<&L>) -> Result<(), AllocError>
+    where
+        L: Copy + Drop,
+        ensures ok { OnOk result (self.new ≡ insert (record { key = key; load = option_copied load.entry }) self.old) }
+        ensures err { OnErr result (self.new ≡ self.old) }
+    {
         if self.near.is_none() && self.queue.is_empty() {
-            self.near = Some(event);
+            let load = load.copied();
+            self.near = Some(Event { key, load });
             return Ok(());
         }
-        self.queue.insert(event)
+        self.queue.insert(key, load)
     }
 
     /// Takes the first event, if it comes before a time in picoseconds. It takes no memory.
@@ -125,16 +137,15 @@ impl<L> Pending<L> {
         ensures some { IfSome result (λ e. (self.old ≡ e ∷ self.new) × (e.key.time < time)) }
         ensures none { IfNone result ((begins_before time self.old ≡ false) × (self.new ≡ self.old)) }
     {
-        let Some(near) = &self.near else {
-            return self.queue.take_before(time);
-        };
-        if !leads(near.key, self.queue.next_key()) {
-            return self.queue.take_before(time);
+        if let Some(near) = &self.near
+            && leads(near.key, self.queue.next_key())
+        {
+            if near.key.time >= time {
+                return None;
+            }
+            return self.near.take();
         }
-        if near.key.time >= time {
-            return None;
-        }
-        self.near.take()
+        self.queue.take_before(time)
     }
 
     /// A copy of the events, in order. It fails only where no memory is left.

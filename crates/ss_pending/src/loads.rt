@@ -1,6 +1,6 @@
 //! The loads of events, apart from their keys.
 
-ghost use Rattle.std.specs.Prelude.{◌≡◌, ◌<◌, [], ◌∷◌, ◌++◌, OnErr, IfOk, length, slice_get, Some};
+ghost use Rattle.std.specs.Prelude.{◌≡◌, ◌<◌, [], ◌∷◌, ◌++◌, OnErr, IfOk, length, slice_get, Some, option_copied};
 ghost use Rattle.ss_pending.specs.Loads.{Puts, Stores, CanTake, load_at, freed};
 
 use std::alloc::{AllocError, Global};
@@ -39,22 +39,22 @@ impl<L> Loads<L> {
         }
     }
 
-    /// Puts a load at a place at which nothing stands, and tells the place. It fails only where no memory is left, or
+    /// Puts a copy of a load at a place at which nothing stands, and tells the place. It fails only where no memory is left, or
     /// where 2^32 - 1 loads stand already, and then changes nothing.
     #[inline(always)]
-    pub fn put(&mut self, load: L) -> Result<u32, AllocError>
+    pub fn put(&mut self, load: &L) -> Result<u32, AllocError>
     where
         L: Copy + Drop,
-        ensures ok { IfOk result (λ place. Puts place load self.old self.new) }
+        ensures ok { IfOk result (λ place. Puts place load.now self.old self.new) }
         ensures err { OnErr result (self.new ≡ self.old) }
     {
         if self.free > 0 {
             let place = self.places[self.free - 1];
             self.free -= 1;
-            self.loads[place as usize] = load;
+            self.loads[place as usize] = *load;
             return Ok(place);
         }
-        self.add(load)
+        self.add(*load)
     }
 
     // Puts a load behind all, where no place is free.
@@ -100,12 +100,13 @@ impl<L> Loads<L> {
     }
 }
 
-/// Puts the load of an event, if it has one, at a place. It fails as `put` does, and then changes nothing.
+/// Puts a copy of the load of an event, if it has one, at a place. It fails as `put` does, and then changes nothing.
+#[inline(always)]
 pub fn store<L: Copy + Drop>(
     loads: &mut Loads<L>,
-    load: Option<L>,
+    load: Option<&L>,
 ) -> Result<Option<u32>, AllocError>
-    ensures ok { IfOk result (λ place. Stores place load loads.old loads.new) }
+    ensures ok { IfOk result (λ place. Stores place (option_copied load.entry) loads.old loads.new) }
     ensures err { OnErr result (loads.new ≡ loads.old) }
 {
     match load {
@@ -115,6 +116,7 @@ pub fn store<L: Copy + Drop>(
 }
 
 /// Takes the load at a place, if one is given. It takes no memory.
+#[inline(always)]
 pub fn unstore<L: Copy>(loads: &mut Loads<L>, place: Option<u32>) -> Option<L>
     requires { CanTake place loads.old }
     ensures load { result ≡ load_at loads.old.loads place }

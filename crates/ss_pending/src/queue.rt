@@ -1,6 +1,6 @@
 //! Events in order, their loads apart from their keys.
 
-ghost use Rattle.std.specs.Prelude.{◌≡◌, ◌+◌, ◌<◌, [], ◌∷◌, ◌==◌, OnOk, OnErr, List, ℕ, false, length, IfSome, IfNone, IfOk, OnSome};
+ghost use Rattle.std.specs.Prelude.{◌≡◌, ◌+◌, ◌<◌, [], ◌∷◌, ◌==◌, OnOk, OnErr, List, ℕ, false, length, IfSome, IfNone, IfOk, OnSome, option_copied};
 ghost use Rattle.std.specs.BinaryHeap.{heap_items, IsHeap};
 ghost use Rattle.ss_model.specs.declared.Event.{Event};
 ghost use Rattle.ss_model.specs.Order.{insert, next_key, next_time, begins_before};
@@ -154,36 +154,35 @@ impl<L> Queue<L> {
         }
     }
 
-    /// Puts in an event, behind those with its key. It fails only where no memory is left, where 2^64 - 1 events were put
-    /// in before it, or where 2^32 - 1 events with a load stand already, and then changes nothing.
-    pub fn insert(&mut self, event: Event<L>) -> Result<(), AllocError>
+    /// Puts in an event with a copy of its load, behind those with its key. It fails only where no memory is left, where
+    /// 2^64 - 1 events were put in before it, or where 2^32 - 1 events with a load stand already, and then changes nothing.
+    pub fn insert(&mut self, key: Key, load: Option<&L>) -> Result<(), AllocError>
     where
         L: Copy + Drop,
-        ensures ok { OnOk result (self.new ≡ insert event self.old) }
+        ensures ok { OnOk result (self.new ≡ insert (record { key = key; load = option_copied load.entry }) self.old) }
         ensures err { OnErr result (self.new ≡ self.old) }
     {
         let number = self.next;
         let Some(next) = number.checked_add(1) else {
             return Err(AllocError);
         };
-        let sort = sort_of(event.key, self.last);
-        let load = store(&mut self.loads, event.load)?;
-        let Key { time, class, line } = event.key;
-        let key = Key { time, class, line };
-        let event = Event { key, load };
+        let sort = sort_of(key, self.last);
+        let place = store(&mut self.loads, load)?;
+        let event = Event { key, load: place };
         match put(&mut self.queue, Filed { event, number }, sort) {
             Ok(()) => {
                 self.next = next;
                 Ok(())
             }
             Err(error) => {
-                put_back(&mut self.loads, load);
+                put_back(&mut self.loads, place);
                 Err(error)
             }
         }
     }
 
     /// Takes the first event, if it comes before a time in picoseconds. It takes no memory.
+    #[inline(always)]
     pub fn take_before(&mut self, time: u64) -> Option<Event<L>>
     where
         L: Copy + Drop,

@@ -2,6 +2,7 @@
 use Rattle.std.specs.Prelude.{◌≡◌, ℕ, ◌+◌, ◌-◌, ◌<◌, ◌≤◌, true, false, nat_lt, List, [], ◌∷◌, ◌++◌, slice_get, Option, None, Some, if◌then◌else◌}
 use Rattle.ss_model.specs.declared.Cause.{Cause}
 use Rattle.ss_model.specs.declared.Event.{Event}
+use Rattle.ss_model.specs.declared.Key.{Key}
 use Rattle.ss_model.specs.declared.Line.{Line}
 use Rattle.ss_model.specs.Order.{begins_before}
 use Rattle.ss_model.specs.Wiring.{Wiring, told}
@@ -18,6 +19,10 @@ pub record Standing (S L : Type 0) : Type 0 where
 
 abbrev pub state_of : {S L : Type 0} → List S → List (Event L) → ℕ → State S L
 state_of components pending last = record { components = components; pending = pending; last = last }
+
+-- a clock's tick
+abbrev pub tick : {L : Type 0} → Key → Event L
+tick k = record { key = k; load = None }
 
 abbrev pub standing : {S L : Type 0} → Wiring → State S L → List Line → Standing S L
 standing w s lines = record { wires = w; state = s; lines = lines }

@@ -1,11 +1,11 @@
 //! What follows one event, over the parts of a simulation.
 
-ghost use Rattle.std.specs.Prelude.{◌≡◌, ◌<◌, ◌≤◌, ◌^◌, [], ◌∷◌, ◌++◌, OnOk, OnErr, IfSome, List, ℕ, Some, length, slice_get, option_to_list};
+ghost use Rattle.std.specs.Prelude.{◌≡◌, ◌<◌, ◌≤◌, ◌^◌, [], ◌∷◌, ◌++◌, OnOk, OnErr, IfSome, List, ℕ, Some, length, slice_get, option_to_list, map};
 ghost use Rattle.ss_model.specs.Order.{insert_all};
 ghost use Rattle.ss_model.specs.Wiring.{WiringFits, told};
 ghost use Rattle.ss_model.specs.Step.{made, made_all, again, printed, step_told, lines_told};
 ghost use Rattle.ss_element.specs.Kind.{ActionFits, ActionsFit};
-ghost use Rattle.ss_serial.specs.Serial.{state_of, MayReact};
+ghost use Rattle.ss_serial.specs.Serial.{state_of, MayReact, tick};
 
 use ss_element::{Acts, Element, Wires};
 use ss_model::{ARRIVAL, Action, Cause, Event, Key, Line, TICK};
@@ -46,8 +46,7 @@ fn put_made<E: Element>(
         Action::ClockOff { .. } | Action::Print { .. } => return Ok(()),
     };
     let key = Key { time, class, line };
-    let load = load.copied();
-    pending.insert(Event { key, load })
+    pending.insert_copied(key, load)
 }
 
 // Does what the actions ask for, in order. A load is copied from its action into its event, and a text moves into its line.
@@ -74,17 +73,17 @@ fn carry_out_all<E: Element>(
     Ok(())
 }
 
-// The next tick of the clock that ticked, unless one of the actions turns it off.
+// When the clock that ticked ticks next, unless one of the actions turns it off.
 fn next_tick<L: Copy>(
     wires: &Wires,
     component: u32,
     now: u64,
     cause: &Cause<L>,
     acts: &Acts<L>,
-) -> Option<Event<L>>
+) -> Option<Key>
     requires early { now < 2 ^ 62 }
     requires wires { WiringFits wires.now }
-    ensures { option_to_list result ≡ again wires.now component now cause.now acts.now }
+    ensures { map tick (option_to_list result) ≡ again wires.now component now cause.now acts.now }
 {
     match cause {
         Cause::Tick { clock } => {
@@ -92,13 +91,10 @@ fn next_tick<L: Copy>(
                 return None;
             }
             match wires.clock_of(component, *clock) {
-                Some((line, period)) => Some(Event {
-                    key: Key {
-                        time: now + period,
-                        class: TICK,
-                        line,
-                    },
-                    load: None,
+                Some((line, period)) => Some(Key {
+                    time: now + period,
+                    class: TICK,
+                    line,
                 }),
                 None => None,
             }
@@ -130,10 +126,10 @@ fn react<E: Element>(
     element.handle(key.time, cause, acts)?;
     let next = next_tick(wires, component, key.time, cause, acts);
     carry_out_all::<E>(wires, component, key, acts, pending, lines)?;
-    if let Some(tick) = next {
-        pending.insert(tick)?;
+    match next {
+        Some(key) => pending.insert(Event { key, load: None }),
+        None => Ok(()),
     }
-    Ok(())
 }
 
 /// What follows an event that was taken.

@@ -9,7 +9,7 @@ index_mut-requires g c =
 
 pub invariant_of-self : goal.invariant_of-self
 invariant_of-self g c =
-    (one_fewer c.self.inside.free (length c.self.inside.places.items) c.self.invariant.0, set_within c.self.inside.loads.items c.index-place.result.now c.args.load (length c.self.inside.places.items) c.self.invariant.1, set_all_within c.self.inside.loads.items c.index-place.result.now c.args.load (take (c.self.inside.free - 1) c.self.inside.places.items) (rest_within (length c.self.inside.loads.items) c.self.inside.places.items c.self.inside.free c.index-place.result.now c.if-self-gt0.true c.self.invariant.0 c.index-place.ensures c.self.invariant.2))
+    (one_fewer c.self.inside.free (length c.self.inside.places.items) c.self.invariant.0, set_within c.self.inside.loads.items c.index-place.result.now c.args.load.now (length c.self.inside.places.items) c.self.invariant.1, set_all_within c.self.inside.loads.items c.index-place.result.now c.args.load.now (take (c.self.inside.free - 1) c.self.inside.places.items) (rest_within (length c.self.inside.loads.items) c.self.inside.places.items c.self.inside.free c.index-place.result.now c.if-self-gt0.true c.self.invariant.0 c.index-place.ensures c.self.invariant.2))
 
 pub returns-then-self-gt0-clause-ok : goal.returns-then-self-gt0-clause-ok
-returns-then-self-gt0-clause-ok g c = put_again c.index-place.result.now c.args.load c.args.self.now c.self.inside.loads.items c.self.inside.places.items c.self.inside.free c.self.view_is c.if-self-gt0.true c.self.invariant.0 c.index-place.ensures c.self.invariant.2
+returns-then-self-gt0-clause-ok g c = put_again c.index-place.result.now c.args.load.now c.args.self.now c.self.inside.loads.items c.self.inside.places.items c.self.inside.free c.self.view_is c.if-self-gt0.true c.self.invariant.0 c.index-place.ensures c.self.invariant.2
