@@ -8,10 +8,10 @@ use Rattle.ss_model.specs.declared.Cause.{Cause}
 use Rattle.ss_model.specs.declared.Cause.TheVariants as cause
 use Rattle.ss_model.specs.declared.Action.{Action}
 use Rattle.ss_model.specs.declared.Action.TheVariants as action
-use Rattle.ss_model.specs.Order.{key_before, insert, insert_all, NoneBefore, IsSorted, next_time, begins_before}
+use Rattle.ss_model.specs.Order.{key_before, insert, insert_all, NoneBefore, IsSorted, begins_before}
 use Rattle.ss_model.specs.Wiring.{Wiring, WiringFits, SecondFits, link_at, own_at, clock_at, told}
-use Rattle.ss_model.specs.Step.{State, Reaction, sent, sent_own, turned_on, made, made_all, turns_off, ticks_on, again, reaction, passed, reacted, printed, step_reacted, step_told, step_from, step, lines_told}
-use Rattle.ss_model.proofs.Runs.{insert_all-append}
+use Rattle.ss_model.specs.Step.{State, Reaction, sent, sent_own, turned_on, made, made_all, turns_off, ticks_on, again, reaction, passed, reacted, printed, step_reacted, step_told, step_from, step, after, lines_told}
+use Rattle.ss_model.proofs.Runs.{insert_all-append, after_add}
 use Rattle.ss_model.proofs.Keys.{before_time}
 use Rattle.ss_element.specs.Kind.{Kind, ActionFits, ActionsFit}
 use Rattle.ss_element.specs.World.{World, IsNext, IsSafe}
@@ -66,13 +66,6 @@ AllFrom-insert_all u (e ∷ es) xs g f = AllFrom-insert_all u es (insert e xs) g
 AllFrom-rest : {L : Type 0} (k : Key) (xs : List (Event L)) → NoneBefore k xs → AllFrom k.time xs
 AllFrom-rest k [] n = tt
 AllFrom-rest k (x ∷ xs) n = (before_time k x.key n.0, AllFrom-rest k xs n.1)
-
--- where the first event is, all others are no earlier
-pub from_first : {L : Type 0} (now : ℕ) (p : List (Event L)) → next_time p ≡ Some now → IsSorted p → AllFrom now p
-from_first now [] n s = tt
-from_first now (e ∷ rest) n s =
-    let same : e.key.time ≡ now = cc in
-    subst (λ u. AllFrom u (e ∷ rest)) same (omega arith, AllFrom-rest e.key rest s.0)
 
 module _ {L : Type 0} (w : Wiring) (c now : ℕ) (h : WiringFits w) where
   made_later : (a : Action L) → ActionFits a → AllFrom (now + 1) (made w c now a)
@@ -167,6 +160,32 @@ begins : {L : Type 0} (t : ℕ) (p : List (Event L)) → begins_before t p ≡ t
 begins t [] b = absurd (cc)
 begins t (e ∷ rest) b = record { first = e; rest = rest; is = refl; early = grind (arith, nat_tests) }
 
+-- where the first event isn't before a time, none is
+from_begins : {L : Type 0} (u : ℕ) (p : List (Event L)) → begins_before u p ≡ false → IsSorted p → AllFrom u p
+from_begins u [] b s = tt
+from_begins u (e ∷ rest) b s =
+    let first : u ≤ e.key.time = grind (arith, nat_tests) in
+    (first, AllFrom-earlier u e.key.time rest first (AllFrom-rest e.key rest s.0))
+
+none_counted : {L : Type 0} (u : ℕ) (p : List (Event L)) → AllFrom u p → count_before u p ≡ 0
+none_counted u [] f = refl
+none_counted u (e ∷ rest) f =
+    let rest_none = none_counted u rest f.1 in
+    let first = f.0 in
+    grind (arith, nat_tests)
+
+pub all_from_zero : {L : Type 0} (p : List (Event L)) → AllFrom 0 p
+all_from_zero [] = tt
+all_from_zero (e ∷ rest) = (omega arith, all_from_zero rest)
+
+after_first : {S L : Type 0} (handled : S → ℕ → Cause L → Reaction S L) (w : Wiring) (n : ℕ) (s : State S L) → after handled w (n + 1) s ≡ after handled w n (step handled w s)
+after_first handled w n s = ap (λ k. after handled w k s) {x = n + 1} {y = 1 + n} (omega arith) ∙ after_add handled w 1 n s
+
+-- how many steps are left to the time t, where nothing is left before t - d: at each time from there on as many as events then come at it
+abbrev pub steps_left : {S L : Type 0} (handled : S → ℕ → Cause L → Reaction S L) → Wiring → ℕ → ℕ → State S L → ℕ
+steps_left handled w t zero s = 0
+steps_left handled w t (suc d) s = count_before (t - d) s.pending + steps_left handled w t d (after handled w (count_before (t - d) s.pending) s)
+
 module _ {S L : Type 0} (kind : Kind S L) (Safe : Wiring → ℕ → State S L → Type 0) (world : World kind Safe) where
   -- who is told of the next event may be told so
   pub may_react : (w : Wiring) (s : State S L) (e : Event L) (rest : List (Event L)) → IsSafe kind Safe w s → s.pending ≡ e ∷ rest → e.key.time < 2 ^ 62 → MayReact kind w s.components e
@@ -188,13 +207,8 @@ module _ {S L : Type 0} (kind : Kind S L) (Safe : Wiring → ℕ → State S L �
       let P : List (Event L) → Type 0 = λ p. Follows e.key.time rest (step_from kind.handled w s p) in
       subst P (sym is) (told_follows kind.handled w s.components rest e.key.time (wires_fit w s safe) (told w e) (may_react w s e rest safe is early).acts)
 
-  -- a step at a time before which nothing is left
-  pub record StepsAt (w : Wiring) (now : ℕ) (old new : State S L) : Type 0 where
-    pub safe : IsSafe kind Safe w new
-    pub events : AllFrom now new.pending
-    pub fewer : count_before (now + 1) new.pending < count_before (now + 1) old.pending
-
-  pub steps_at : (w : Wiring) (s : State S L) (now : ℕ) → now < 2 ^ 62 → IsSafe kind Safe w s → AllFrom now s.pending → begins_before (now + 1) s.pending ≡ true → StepsAt w now s (step kind.handled w s)
+  -- a step at a time before which nothing is left leaves one event less at it
+  steps_at : (w : Wiring) (s : State S L) (now : ℕ) → now < 2 ^ 62 → IsSafe kind Safe w s → AllFrom now s.pending → begins_before (now + 1) s.pending ≡ true → count_before (now + 1) (step kind.handled w s).pending + 1 ≡ count_before (now + 1) s.pending
   steps_at w s now early safe events b =
       let first = begins (now + 1) s.pending b in
       let e = first.first in
@@ -205,11 +219,55 @@ module _ {S L : Type 0} (kind : Kind S L) (Safe : Wiring → ℕ → State S L �
       let later : AllFrom (now + 1) f.news = subst (λ u. AllFrom (u + 1) f.news) same f.later in
       let counted : count_before (now + 1) (step kind.handled w s).pending ≡ count_before (now + 1) rest = ap (count_before (now + 1)) f.pending ∙ count_insert_all (now + 1) f.news rest later in
       let one : count_before (now + 1) s.pending ≡ count_before (now + 1) rest + 1 = ap (count_before (now + 1)) first.is ∙ one_more (now + 1) e rest first.early in
-      record {
-        safe = (e.key.time, world.steps w safe.0 s e rest safe.1 first.is (omega (arith, same)));
-        events = subst (AllFrom now) (sym f.pending) (AllFrom-insert_all now f.news rest (AllFrom-earlier now (now + 1) f.news (omega arith) later) here.1);
-        fewer = omega (arith, counted, one);
-      }
+      omega (arith, counted, one)
     where
       one_more : (t : ℕ) (e : Event L) (rest : List (Event L)) → e.key.time < t → count_before t (e ∷ rest) ≡ count_before t rest + 1
       one_more t e rest l = grind (arith, nat_tests)
+
+  -- a step before a time leaves what is safe
+  pub step_safe : (w : Wiring) (s : State S L) (t : ℕ) → t ≤ 2 ^ 62 → IsSafe kind Safe w s → begins_before t s.pending ≡ true → IsSafe kind Safe w (step kind.handled w s)
+  step_safe w s t early safe b =
+      let first = begins t s.pending b in
+      (first.first.key.time, world.steps w safe.0 s first.first first.rest safe.1 first.is (omega (arith, first.early)))
+
+  -- where nothing is left before a time, a step at it or later leaves nothing before it
+  step_from_on : (w : Wiring) (s : State S L) (u t : ℕ) → t ≤ 2 ^ 62 → IsSafe kind Safe w s → AllFrom u s.pending → begins_before t s.pending ≡ true → AllFrom u (step kind.handled w s).pending
+  step_from_on w s u t early safe events b =
+      let first = begins t s.pending b in
+      let e = first.first in
+      let here : AllFrom u (e ∷ first.rest) = subst (AllFrom u) first.is events in
+      let f = step_follows w s e first.rest safe first.is (omega (arith, first.early)) in
+      subst (AllFrom u) (sym f.pending) (AllFrom-insert_all u f.news first.rest (AllFrom-earlier u (e.key.time + 1) f.news (omega (arith, here.0)) f.later) here.1)
+
+  -- ---- how many steps are left
+
+  -- a step before the time leaves one less, where nothing is left before the time less d
+  pub steps_fall : (w : Wiring) (t d : ℕ) (s : State S L) → t ≤ 2 ^ 62 → d ≤ t → IsSafe kind Safe w s → AllFrom (t - d) s.pending → begins_before t s.pending ≡ true → steps_left kind.handled w t d (step kind.handled w s) + 1 ≡ steps_left kind.handled w t d s
+  steps_fall w t zero s early within safe events b =
+      let first = begins t s.pending b in
+      let here : AllFrom (t - 0) (first.first ∷ first.rest) = subst (AllFrom (t - 0)) first.is events in
+      absurd (omega (arith, here.0, first.early))
+  steps_fall w t (suc d) s early within safe events b = by_now (begins_before (t - d) s.pending) refl (λ from. steps_fall w t d s early (omega arith) safe from b)
+    where
+      left : ℕ → State S L → ℕ
+      left n x = n + steps_left kind.handled w t d (after kind.handled w n x)
+
+      new : State S L
+      new = step kind.handled w s
+
+      by_now : (c : Bool) → begins_before (t - d) s.pending ≡ c → (AllFrom (t - d) s.pending → steps_left kind.handled w t d new + 1 ≡ steps_left kind.handled w t d s) → left (count_before (t - d) new.pending) new + 1 ≡ left (count_before (t - d) s.pending) s
+      by_now true here rest =
+          let one : t - d ≡ (t - suc d) + 1 = omega arith in
+          let fewer_at = steps_at w s (t - suc d) (omega arith) safe events (subst (λ u. begins_before u s.pending ≡ true) one here) in
+          let n = count_before (t - d) new.pending in
+          let fewer : n + 1 ≡ count_before (t - d) s.pending = subst (λ u. count_before u new.pending + 1 ≡ count_before u s.pending) (sym one) fewer_at in
+          let same : steps_left kind.handled w t d (after kind.handled w n new) ≡ steps_left kind.handled w t d (after kind.handled w (n + 1) s) = ap (steps_left kind.handled w t d) (sym (after_first kind.handled w n s)) in
+          let next : left n new + 1 ≡ left (n + 1) s = omega (arith, same) in
+          next ∙ ap (λ m. left m s) fewer
+      by_now false here rest =
+          let from : AllFrom (t - d) s.pending = from_begins (t - d) s.pending here (sorted w s safe) in
+          let from_new : AllFrom (t - d) new.pending = step_from_on w s (t - d) t early safe from b in
+          let less : steps_left kind.handled w t d new + 1 ≡ steps_left kind.handled w t d s = rest from in
+          let old_none : left (count_before (t - d) s.pending) s ≡ left 0 s = ap (λ n. left n s) (none_counted (t - d) s.pending from) in
+          let new_none : left (count_before (t - d) new.pending) new ≡ left 0 new = ap (λ n. left n new) (none_counted (t - d) new.pending from_new) in
+          omega (arith, less, old_none, new_none)

@@ -131,19 +131,6 @@ impl<E: Element> Serial<E> {
         Ok(true)
     }
 
-    // All that comes at a time before which nothing is left.
-    fn run_at(&mut self, now: u64) -> Result<(), AllocError>
-        requires early { now < 2 ^ 62 }
-        requires safe { IsSafe E.kind E.safe self.old.wires self.old.state }
-        requires next { next_time self.old.state.pending ≡ Some now }
-        ensures runs { OnOk result (Runs E.kind.handled (now + 1) self.old self.new) }
-        ensures safe { OnOk result (IsSafe E.kind E.safe self.new.wires self.new.state) }
-        ensures done { OnOk result (begins_before (now + 1) self.new.state.pending ≡ false) }
-    {
-        while self.step_before(now + 1)? {}
-        Ok(())
-    }
-
     /// Handles all events before a time in picoseconds, and no others. It fails only where no memory is left, and
     /// then nothing is known of the state.
     pub fn until(&mut self, time: u64) -> Result<(), AllocError>
@@ -152,12 +139,7 @@ impl<E: Element> Serial<E> {
         ensures runs { OnOk result (RunsUntil E.kind.handled time self.old self.new) }
         ensures safe { OnOk result (IsSafe E.kind E.safe self.new.wires self.new.state) }
     {
-        while let Some(now) = self.next_time() {
-            if now >= time {
-                break;
-            }
-            self.run_at(now)?;
-        }
+        while self.step_before(time)? {}
         Ok(())
     }
 
