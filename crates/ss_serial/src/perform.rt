@@ -49,7 +49,8 @@ fn put_made<E: Element>(
     pending.insert_copied(key, load)
 }
 
-// Does what the actions ask for, in order. A load is copied from its action into its event, and a text moves into its line.
+// Does what the actions ask for, in order. A load is copied from its action into its event, and the action is passed
+// by; a text moves into its line.
 fn carry_out_all<E: Element>(
     wires: &Wires,
     component: u32,
@@ -65,9 +66,13 @@ fn carry_out_all<E: Element>(
     ensures lines { OnOk result (lines.new.items ≡ lines.old.items ++ printed key acts.old) }
 {
     while let Some(action) = acts.get(0) {
-        put_made::<E>(wires, component, key.time, action, pending)?;
-        if let Some(Action::Print { text }) = acts.take() {
-            lines.push(Line { key, text })?;
+        if let Action::Print { .. } = action {
+            if let Some(Action::Print { text }) = acts.take() {
+                lines.push(Line { key, text })?;
+            }
+        } else {
+            put_made::<E>(wires, component, key.time, action, pending)?;
+            acts.skip();
         }
     }
     Ok(())
