@@ -1,7 +1,7 @@
 //! What a simulation is made of: elements, what they ask for, and the wires between them.
 #![tactic(auto)]
 
-ghost use Rattle.std.specs.Prelude.{◌≡◌, ◌<◌, ◌^◌, [], ◌∷◌, ◌++◌, OnOk, OnErr, ◌==◌, IfSome, IfNone, List, ℕ, Bool, length, true};
+ghost use Rattle.std.specs.Prelude.{◌≡◌, ◌<◌, ◌^◌, [], ◌∷◌, ◌++◌, OnOk, OnErr, ◌==◌, IfSome, IfNone, List, ℕ, Bool, length, drop, true};
 ghost use Rattle.std.specs.Slice.{IsItemAt};
 ghost use Rattle.ss_model.specs.Wiring.{Wiring};
 ghost use Rattle.ss_model.specs.Step.{State, turns_off};
@@ -35,7 +35,7 @@ pub use wires::Wires;
 /// The actions of a call, in order.
 #[derive(Drop)]
 pub struct Acts<L> {
-    // Those that were taken have left others in their places, as far as `next`.
+    // As far as `next`, those that were taken have left others in their places, and those passed by stay.
     items: Vec<Action<L>>,
     next: usize,
     alloc: Global,
@@ -101,6 +101,17 @@ impl<L> Acts<L> {
         }
         self.next += 1;
         Some(mem::replace(&mut self.items[place], Action::ClockOff { clock: 0 }))
+    }
+
+    /// Passes by the first action, where there is one: it stays where it stands until the actions are cleared. It
+    /// takes no memory.
+    #[inline(always)]
+    pub fn skip(&mut self)
+        ensures { self.new ≡ drop 1 self.old }
+    {
+        if self.next < self.items.len() {
+            self.next += 1;
+        }
     }
 
     /// How many actions there are.

@@ -45,6 +45,18 @@ fn wires_are_looked_up(rt: HostRuntime) -> Result<(), AllocError> {
     Ok(())
 }
 
+#[test]
+fn the_first_clock_ticks_on(rt: HostRuntime) -> Result<(), AllocError> {
+    let mut wires = wired(rt.alloc())?;
+    wires.clock(0, 5, 3000)?;
+    assert_eq!(rt; wires.ticks_again(3), Some((3, 1000)));
+    assert_eq!(rt; wires.ticks_again(4), Some((3, 1000)));
+    assert_eq!(rt; wires.ticks_again(2), None);
+    assert_eq!(rt; wires.ticks_again(1), None);
+    assert_eq!(rt; wires.ticks_again(5), None);
+    Ok(())
+}
+
 fn event(class: u8, line: u32, load: Option<u64>) -> Event<u64> {
     let key = Key {
         time: 5,
@@ -86,6 +98,21 @@ fn actions_are_taken_in_order(rt: HostRuntime) -> Result<(), AllocError> {
     assert!(rt; matches!(acts.take(), Some(Action::Send { load: 3, .. })));
     acts.clear();
     assert!(rt; acts.is_empty());
+    Ok(())
+}
+
+#[test]
+fn actions_are_passed_by(rt: HostRuntime) -> Result<(), AllocError> {
+    let mut acts: Acts<u64> = Acts::new(rt.alloc());
+    acts.push(Action::ClockOn { clock: 1 })?;
+    acts.push(Action::ClockOff { clock: 2 })?;
+    acts.skip();
+    assert_eq!(rt; acts.len(), 1);
+    assert!(rt; matches!(acts.get(0), Some(Action::ClockOff { clock: 2 })));
+    acts.skip();
+    acts.skip();
+    assert!(rt; acts.is_empty());
+    assert!(rt; acts.take().is_none());
     Ok(())
 }
 

@@ -1,9 +1,9 @@
 //! The wires between components, with tables to look them up.
 
-ghost use Rattle.std.specs.Prelude.{◌≡◌, ◌<◌, ◌-◌, ◌^◌, [], length, nat_lt, OnOk, OnErr};
+ghost use Rattle.std.specs.Prelude.{◌≡◌, ◌<◌, ◌-◌, ◌^◌, [], ◌∷◌, ◌++◌, length, nat_lt, slice_get, List, ℕ, OnOk, OnErr};
 ghost use Rattle.ss_model.specs.declared.InnerLine.TheVariants as inner;
 ghost use Rattle.ss_model.specs.Wiring.{link_at, own_at, clock_at, target, told, told_load, of_line, of_own, of_clock, inner_at, WiringFits, SecondFits};
-ghost use Rattle.ss_element.specs.Index.{with_link, with_inner, entries, counts};
+ghost use Rattle.ss_element.specs.Index.{with_link, with_inner, entries, counts, first_place, place_or, clock_again};
 
 use crate::table::Table;
 use ss_model::{ARRIVAL, Cause, Event, InnerLine, Key, LinkLine, START, TICK};
@@ -15,6 +15,8 @@ use std::marker::Model;
 pub struct Wires {
     links: Vec<LinkLine>,
     inner: Vec<InnerLine>,
+    // At a clock's place among `inner`, the place of the first clock of its component and index.
+    firsts: Vec<u32>,
     own_lines: u32,
     ports: Table<(u32, u64)>,
     owns: Table<u32>,
@@ -29,7 +31,37 @@ impl Model for Wires {
 
     ghost view = { λ w. record { links = w.links.items; inner = w.inner.items } };
 
-    ghost invariant = { λ w. Indexed w.links.items w.inner.items w.own_lines w.ports w.owns w.clocks };
+    ghost invariant = { λ w. Indexed w.links.items w.inner.items w.firsts.items w.own_lines w.ports w.owns w.clocks };
+}
+
+// Adds an entry to each of two lists that stand side by side. After an error both are as before.
+fn push_both(
+    inner: &mut Vec<InnerLine>,
+    firsts: &mut Vec<u32>,
+    line: InnerLine,
+    first: u32,
+) -> Result<(), AllocError>
+    ensures inner { OnOk result (inner.new.items ≡ inner.old.items ++ line ∷ []) }
+    ensures firsts { OnOk result (firsts.new.items ≡ firsts.old.items ++ first ∷ []) }
+    ensures same_inner { OnErr result (inner.new.items ≡ inner.old.items) }
+    ensures same_firsts { OnErr result (firsts.new.items ≡ firsts.old.items) }
+{
+    firsts.push(first)?;
+    if inner.push(line).is_err() {
+        firsts.pop();
+        return Err(AllocError);
+    }
+    Ok(())
+}
+
+// The place of a clock that is there, or else another.
+fn place_or(clock: Option<(u32, u64)>, place: u32) -> u32
+    ensures { result ≡ place_or clock place }
+{
+    match clock {
+        Some((first, _)) => first,
+        None => place,
+    }
 }
 
 impl Wires {
@@ -40,6 +72,7 @@ impl Wires {
         Wires {
             links: Vec::new(alloc),
             inner: Vec::new(alloc),
+            firsts: Vec::new(alloc),
             own_lines: 0,
             ports: Table::new(alloc),
             owns: Table::new(alloc),
@@ -83,7 +116,8 @@ impl Wires {
     {
         let place = self.inner.len() as u32;
         self.owns.grow(component, index)?;
-        self.inner.push(InnerLine::Own { component, index })?;
+        let line = InnerLine::Own { component, index };
+        push_both(&mut self.inner, &mut self.firsts, line, place)?;
         self.owns.fill(component, index, place);
         self.own_lines += 1;
         Ok(())
@@ -98,11 +132,13 @@ impl Wires {
     {
         let place = self.inner.len() as u32;
         self.clocks.grow(component, index)?;
-        self.inner.push(InnerLine::Clock {
+        let first = place_or(self.clocks.get(component, index), place);
+        let line = InnerLine::Clock {
             component,
             index,
             period,
-        })?;
+        };
+        push_both(&mut self.inner, &mut self.firsts, line, first)?;
         self.clocks.fill(component, index, (place, period));
         Ok(())
     }
@@ -147,6 +183,32 @@ impl Wires {
         match self.clocks.get(component, index) {
             Some((place, period)) => Some((links + place, period)),
             None => None,
+        }
+    }
+
+    /// The place behind the link lines of the first clock with the component and the index of the clock at a place.
+    #[inline(always)]
+    fn first_at(&self, place: usize) -> Option<u32>
+        ensures { result ≡ first_place self.now.inner (slice_get self.now.inner place) }
+    {
+        match self.inner.get(place)? {
+            InnerLine::Own { .. } => None,
+            InnerLine::Clock { .. } => self.firsts.get(place).copied(),
+        }
+    }
+
+    /// The number and the period, in picoseconds, of the component's first clock of the index that the clock with
+    /// this number has: the one that ticks on after it.
+    #[inline(always)]
+    pub fn ticks_again(&self, line: u32) -> Option<(u32, u64)>
+        ensures value { result ≡ clock_again self.now line }
+        ensures fits { WiringFits self.now → SecondFits result }
+    {
+        let links = self.links.len();
+        let first = self.first_at((line as usize).checked_sub(links)?)?;
+        match self.inner.get(first as usize)? {
+            InnerLine::Own { .. } => None,
+            InnerLine::Clock { period, .. } => Some((links as u32 + first, *period)),
         }
     }
 

@@ -1,6 +1,6 @@
 -- What one step does, and that it takes one event of those before a time.
-use Rattle.std.proofs.Common.{◌≡◌, ℕ, zero, suc, ◌+◌, ◌-◌, ◌%◌, ◌^◌, ◌<◌, ◌≤◌, Bool, true, false, cond, List, [], ◌∷◌, ◌++◌, length, get_or, Option, Some, None, refl, sym, ap, ◌∙◌, subst, arith}
-use Rattle.std.specs.Prelude.{slice_get}
+use Rattle.std.proofs.Common.{◌≡◌, ℕ, zero, suc, ◌+◌, ◌-◌, ◌%◌, ◌^◌, ◌<◌, ◌≤◌, Bool, true, false, cond, eqb, List, [], ◌∷◌, ◌++◌, length, get_or, Option, Some, None, refl, sym, ap, ◌∙◌, subst, arith}
+use Rattle.std.specs.Prelude.{slice_get, nat_lt}
 use Rattle.std.proofs.lemmas.Bool.Decides.{nat_tests}
 use Rattle.ss_model.specs.declared.Key.{Key}
 use Rattle.ss_model.specs.declared.Event.{Event}
@@ -9,14 +9,15 @@ use Rattle.ss_model.specs.declared.Cause.TheVariants as cause
 use Rattle.ss_model.specs.declared.Action.{Action}
 use Rattle.ss_model.specs.declared.Action.TheVariants as action
 use Rattle.ss_model.specs.Order.{key_before, insert, insert_all, NoneBefore, IsSorted, begins_before}
-use Rattle.ss_model.specs.Wiring.{Wiring, WiringFits, SecondFits, link_at, own_at, clock_at, told}
+use Rattle.ss_model.specs.Wiring.{Wiring, WiringFits, SecondFits, link_at, own_at, clock_at, of_clock, of_line, inner_at, target, told_load, told_of, told}
 use Rattle.ss_model.specs.Step.{State, Reaction, sent, sent_own, turned_on, made, made_all, turns_off, ticks_on, again, reaction, passed, reacted, printed, step_reacted, step_told, step_from, step, after, lines_told}
 use Rattle.ss_model.proofs.Runs.{insert_all-append, after_add}
 use Rattle.ss_model.proofs.Keys.{before_time}
+use Rattle.ss_element.specs.Index.{again_of}
 use Rattle.ss_element.specs.Kind.{Kind, ActionFits, ActionsFit}
 use Rattle.ss_element.specs.World.{World, IsNext, IsSafe}
 use Rattle.ss_element.proofs.Places.{link_at_fits, clock_at_fits}
-use Rattle.ss_serial.specs.Serial.{AllFrom, MayReact, count_before}
+use Rattle.ss_serial.specs.Serial.{AllFrom, MayReact, TicksOn, count_before}
 
 -- ---- what an event tells
 
@@ -39,6 +40,38 @@ module _ {S L : Type 0} (handled : S → ℕ → Cause L → Reaction S L) (w : 
 
   pub told_some : (c : ℕ) (why : Cause L) (x : S) → told ≡ Some (c, why) → c < length components → x ≡ get_or components c x → (step_told handled w components rest k.time told ≡ reacted w components rest k.time c why (handled x k.time why)) × (lines_told handled components k told ≡ printed k (handled x k.time why).actions)
   told_some c why x e h g = rw (e, get_some components c x h g) (refl, refl)
+
+-- a tick's cause comes from its clock's line
+module _ {L : Type 0} (w : Wiring) (n c : ℕ) (why : Cause L) where
+  told_arrival : (link : Bool) (r : ℕ × ℕ) (load : Option L) → told_load link r load ≡ Some (c, why) → TicksOn w c n why
+  told_arrival link r None t = absurd (cc)
+  told_arrival true r (Some x) t =
+      let pair : (r.0, cause.Link r.1 x) ≡ (c, why) = cc in
+      subst (TicksOn w c n) (ap (λ (p : ℕ × Cause L). p.1) pair) tt
+  told_arrival false r (Some x) t =
+      let pair : (r.0, cause.Own r.1 x) ≡ (c, why) = cc in
+      subst (TicksOn w c n) (ap (λ (p : ℕ × Cause L). p.1) pair) tt
+
+  told_ticks : (start ticks link : Bool) (r : ℕ × ℕ) (load : Option L) → (start ≡ false → ticks ≡ true → of_clock (inner_at w n) ≡ Some r) → cond start (Some (r.0, cause.Start)) (cond ticks (Some (r.0, cause.Tick r.1)) (told_load link r load)) ≡ Some (c, why) → TicksOn w c n why
+  told_ticks true ticks link r load h t =
+      let pair : (r.0, cause.Start) ≡ (c, why) = cc in
+      subst (TicksOn w c n) (ap (λ (p : ℕ × Cause L). p.1) pair) tt
+  told_ticks false true link r load h t =
+      let pair : (r.0, cause.Tick r.1) ≡ (c, why) = cc in
+      subst (TicksOn w c n) (ap (λ (p : ℕ × Cause L). p.1) pair) (ap (again_of w) (h refl refl) ∙ ap (λ (p : ℕ × Cause L). clock_at w p.0 r.1) pair)
+  told_ticks false false link r load h t = told_arrival link r load t
+
+clock_target : (start ticks : Bool) (r : ℕ × ℕ) (x y z : Option (ℕ × ℕ)) → cond start x (cond ticks y z) ≡ Some r → start ≡ false → ticks ≡ true → y ≡ Some r
+clock_target true ticks r x y z e s t = absurd (cc)
+clock_target false true r x y z e s t = e
+clock_target false false r x y z e s t = absurd (cc)
+
+pub ticks_from_line : {L : Type 0} (w : Wiring) (e : Event L) (c : ℕ) (why : Cause L) → told w e ≡ Some (c, why) → TicksOn w c e.key.line why
+ticks_from_line w e c why t = at_target (target w e.key) refl t
+  where
+    at_target : (o : Option (ℕ × ℕ)) → target w e.key ≡ o → told_of w e.key.class e.key.line o e.load ≡ Some (c, why) → TicksOn w c e.key.line why
+    at_target None is t = absurd (cc)
+    at_target (Some r) is t = told_ticks w e.key.line c why (eqb e.key.class 0) (eqb e.key.class 1) (nat_lt e.key.line (length w.links)) r e.load (clock_target (eqb e.key.class 0) (eqb e.key.class 1) r (Some (e.key.line, 0)) (of_clock (inner_at w e.key.line)) (cond (eqb e.key.class 2) (of_line w e.key.line) None) is) t
 
 -- ---- what is made comes later
 

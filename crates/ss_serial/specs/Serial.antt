@@ -1,13 +1,15 @@
 -- A simulation that runs on one thread.
 use Rattle.std.specs.Prelude.{◌≡◌, ℕ, ◌+◌, ◌-◌, ◌<◌, ◌≤◌, true, false, nat_lt, List, [], ◌∷◌, ◌++◌, slice_get, Option, None, Some, if◌then◌else◌}
 use Rattle.ss_model.specs.declared.Cause.{Cause}
+use Rattle.ss_model.specs.declared.Cause.TheVariants as cause
 use Rattle.ss_model.specs.declared.Event.{Event}
 use Rattle.ss_model.specs.declared.Key.{Key}
 use Rattle.ss_model.specs.declared.Line.{Line}
 use Rattle.ss_model.specs.Order.{begins_before}
-use Rattle.ss_model.specs.Wiring.{Wiring, told}
+use Rattle.ss_model.specs.Wiring.{Wiring, clock_at, told}
 use Rattle.ss_model.specs.Step.{State, Reaction, step, step_lines, after, lines, IsUntil}
 use Rattle.ss_element.specs.Kind.{Kind, ActionsFit}
+use Rattle.ss_element.specs.Index.{clock_again}
 use Rattle.ss_model.specs.End.{Behaviour, Limits, Outcome, end_of, agree, IsRun, told_time}
 use Rattle.ss_serial.specs.declared.run.Bounds.{Bounds}
 
@@ -55,6 +57,13 @@ module _ {S L : Type 0} (b : Behaviour S L) where
     pub run : IsRun b old.wires l old.state outcome
     pub is : new ≡ ran b.handled outcome.steps old
     pub told : time ≡ told_time outcome new.state
+
+-- where the cause is a clock's tick, what ticks again after the line n is the component's first clock of that index
+abbrev pub TicksOn : {L : Type 0} → Wiring → ℕ → ℕ → Cause L → Type 0
+TicksOn w c n cause.Start = Unit {0}
+TicksOn w c n (cause.Link p x) = Unit {0}
+TicksOn w c n (cause.Own i x) = Unit {0}
+TicksOn w c n (cause.Tick i) = clock_again w n ≡ clock_at w c i
 
 -- each event comes at a time or later
 abbrev pub AllFrom : {L : Type 0} → ℕ → List (Event L) → Type 0

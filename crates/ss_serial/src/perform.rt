@@ -5,7 +5,7 @@ ghost use Rattle.ss_model.specs.Order.{insert_all};
 ghost use Rattle.ss_model.specs.Wiring.{WiringFits, told};
 ghost use Rattle.ss_model.specs.Step.{made, made_all, again, printed, step_told, lines_told};
 ghost use Rattle.ss_element.specs.Kind.{ActionFits, ActionsFit};
-ghost use Rattle.ss_serial.specs.Serial.{state_of, MayReact, tick};
+ghost use Rattle.ss_serial.specs.Serial.{state_of, MayReact, TicksOn, tick};
 
 use ss_element::{Acts, Element, Wires};
 use ss_model::{ARRIVAL, Action, Cause, Event, Key, Line, TICK};
@@ -49,7 +49,8 @@ fn put_made<E: Element>(
     pending.insert_copied(key, load)
 }
 
-// Does what the actions ask for, in order. A load is copied from its action into its event, and a text moves into its line.
+// Does what the actions ask for, in order. A load is copied from its action into its event, and the action is passed
+// by; a text moves into its line.
 fn carry_out_all<E: Element>(
     wires: &Wires,
     component: u32,
@@ -65,34 +66,39 @@ fn carry_out_all<E: Element>(
     ensures lines { OnOk result (lines.new.items ≡ lines.old.items ++ printed key acts.old) }
 {
     while let Some(action) = acts.get(0) {
-        put_made::<E>(wires, component, key.time, action, pending)?;
-        if let Some(Action::Print { text }) = acts.take() {
-            lines.push(Line { key, text })?;
+        if let Action::Print { .. } = action {
+            if let Some(Action::Print { text }) = acts.take() {
+                lines.push(Line { key, text })?;
+            }
+        } else {
+            put_made::<E>(wires, component, key.time, action, pending)?;
+            acts.skip();
         }
     }
     Ok(())
 }
 
-// When the clock that ticked ticks next, unless one of the actions turns it off.
+// When the clock that ticked ticks next, unless one of the actions turns it off. The key is that of the event.
 fn next_tick<L: Copy>(
     wires: &Wires,
     component: u32,
-    now: u64,
+    key: Key,
     cause: &Cause<L>,
     acts: &Acts<L>,
 ) -> Option<Key>
-    requires early { now < 2 ^ 62 }
+    requires early { key.time < 2 ^ 62 }
     requires wires { WiringFits wires.now }
-    ensures { map tick (option_to_list result) ≡ again wires.now component now cause.now acts.now }
+    requires on { TicksOn wires.now component key.line cause.now }
+    ensures { map tick (option_to_list result) ≡ again wires.now component key.time cause.now acts.now }
 {
     match cause {
         Cause::Tick { clock } => {
             if acts.turns_off(*clock) {
                 return None;
             }
-            match wires.clock_of(component, *clock) {
+            match wires.ticks_again(key.line) {
                 Some((line, period)) => Some(Key {
-                    time: now + period,
+                    time: key.time + period,
                     class: TICK,
                     line,
                 }),
@@ -116,6 +122,7 @@ fn react<E: Element>(
 ) -> Result<(), AllocError>
     requires early { key.time < 2 ^ 62 }
     requires wires { WiringFits wires.now }
+    requires on { TicksOn wires.now component key.line cause.now }
     requires meets { E.kind.Meets element.old key.time cause.now }
     requires fit { ActionsFit (E.kind.handled element.old key.time cause.now).actions }
     ensures element { OnOk result (element.new ≡ (E.kind.handled element.old key.time cause.now).state) }
@@ -124,7 +131,7 @@ fn react<E: Element>(
 {
     acts.clear();
     element.handle(key.time, cause, acts)?;
-    let next = next_tick(wires, component, key.time, cause, acts);
+    let next = next_tick(wires, component, key, cause, acts);
     carry_out_all::<E>(wires, component, key, acts, pending, lines)?;
     match next {
         Some(key) => pending.insert(Event { key, load: None }),

@@ -1,11 +1,14 @@
 use Rattle.std.proofs.Common.{sym, refl, arith, append-nil}
 use Rattle.ss_model.specs.Wiring.{told}
-use Rattle.ss_serial.proofs.Steps.{get_some, told_some, told_absent}
+use Rattle.ss_serial.proofs.Steps.{get_some, ticks_from_line, told_some, told_absent}
 use Rattle.ss_serial.proofs.perform.perform.Goals as goal
 
 pub react-requires-clause-meets : goal.react-requires-clause-meets
 react-requires-clause-meets g c =
     c.requires.may.meets c.in-Some.component c.in-Some.cause _ (sym c.in-Some.ensures) (get_some c.args.elements.now.items c.in-Some.component _ (omega (arith, c.args.elements.now.ok.0)) c.index_mut-element.ensures.value)
+
+pub react-requires-clause-on : goal.react-requires-clause-on
+react-requires-clause-on g c = ticks_from_line c.args.wires.now c.args.event c.in-Some.component c.in-Some.cause (sym c.in-Some.ensures)
 
 pub react-requires-clause-fit : goal.react-requires-clause-fit
 react-requires-clause-fit g c =

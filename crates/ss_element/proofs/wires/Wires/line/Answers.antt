@@ -6,4 +6,4 @@ pub invariant_of-self-2 : goal.invariant_of-self-2
 invariant_of-self-2 c =
     let s = c.self.inside in
     let number : c.len-number.result ≡ length s.links.items = search rules in
-    Indexed-link s.links.items _ s.inner.items s.own_lines s.ports c.grow.new.self c.fill.new.self s.owns s.clocks _ c.len-number.result c.self.invariant (search rules) number c.in_ok-push.ensures.items c.in_ok-grow.ensures.same c.fill.ensures
+    Indexed-link s.links.items _ s.inner.items s.firsts.items s.own_lines s.ports c.grow.new.self c.fill.new.self s.owns s.clocks _ c.len-number.result c.self.invariant (search rules) number c.in_ok-push.ensures.items c.in_ok-grow.ensures.same c.fill.ensures
