@@ -15,8 +15,7 @@ use Rattle.ss_pending.specs.declared.filed.Filed.{Filed}
 use Rattle.ss_pending.specs.Filed.{is_before, latest_first, In, AllBehind, Ascends, Different, in_order, events, IsFirst, FirstOf, Takes, leads, first_of}
 use Rattle.std.proofs.lemmas.Option.{IfSome_then}
 use Rattle.ss_model.specs.declared.Event.{Event}
-use Rattle.ss_model.specs.Order.{next_key}
-use Rattle.ss_pending.proofs.Sorting.{first_key_is, different_permutation, sorted_permutation, tells, asym, trans, behind, in_permutation, upper, upper_at}
+use Rattle.ss_pending.proofs.Sorting.{different_permutation, sorted_permutation, tells, asym, trans, behind, in_permutation, upper, upper_at}
 
 turned : (s : Ordering) → is_gt (ordering_reverse s) ≡ is_lt s
 turned Less = refl
@@ -137,22 +136,6 @@ module _ {L : Type 0} where
       first = upper_both y xs zs (following o p xs ys f g h y (taken_is_first y ys zs t)) t.first;
     }
 
-    -- the one that leads has something, and where the other has nothing neither has
-    pub leader_has : leads o p ≡ true → xs ≡ [] → ⊥
-    leader_has h e = has o f h
-      where
-        has : (o : Option (Filed L)) → FirstOf o xs → leads o p ≡ true → ⊥
-        has None f h = false≢true h
-        has (Some x) f h = subst (In x) e f.is_there
-
-    pub both_nil : leads o p ≡ false → ys ≡ [] → xs ++ ys ≡ []
-    both_nil h e = nil o p f g h
-      where
-        nil : (o p : Option (Filed L)) → FirstOf o xs → FirstOf p ys → leads o p ≡ false → xs ++ ys ≡ []
-        nil None p f g h = rw (f, e) refl
-        nil (Some x) None f g h = absurd (false≢true (sym h))
-        nil (Some x) (Some y) f g h = absurd (subst (In y) e g.is_there)
-
   pub puts_left : (x : Filed L) (xs ys zs : List (Filed L)) → IsPermutation (x ∷ xs) zs → IsPermutation (x ∷ (xs ++ ys)) (zs ++ ys)
   puts_left x xs ys zs p = IsPermutation-append_left ys (x ∷ xs) zs p
 
@@ -250,9 +233,6 @@ module _ {L : Type 0} where
   pub none_right : (r : Option (Filed L)) (xs ys zs : List (Filed L)) → IfNone r ((ys ≡ []) × (zs ≡ [])) → IfNone r (xs ++ zs ≡ xs ++ ys)
   none_right None xs ys zs n = ap (λ w. xs ++ w) (n.1 ∙ sym n.0)
   none_right (Some x) xs ys zs n = tt
-
-  pub key_first : (x : Filed L) (o p : Option (Filed L)) (xs ys : List (Filed L)) → Some x ≡ first_of o p → FirstOf o xs → FirstOf p ys → Different (xs ++ ys) → Some x.event.key ≡ next_key (in_order (xs ++ ys))
-  key_first x o p xs ys e f g d = first_key_is (Some x) (xs ++ ys) (subst (λ q. FirstOf q (xs ++ ys)) (sym e) (first_of_both o p xs ys f g)) d
 
   -- ---- lists of all
 

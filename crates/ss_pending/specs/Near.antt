@@ -10,7 +10,12 @@ module _ {L : Type 0} where
   ahead n [] = n ∷ []
   ahead n (x ∷ xs) = if key_before x.key n.key then x ∷ ahead n xs else n ∷ x ∷ xs
 
-  -- the same, where one is there
+  -- one that is there as long as it stands
+  abbrev pub near_if : Bool → Option (Event L) → Option (Event L)
+  near_if false o = None
+  near_if true o = o
+
+  -- a list with one more, where one is there
   abbrev pub with_near : Option (Event L) → List (Event L) → List (Event L)
   with_near None xs = xs
   with_near (Some n) xs = ahead n xs

@@ -20,8 +20,10 @@ use std::marker::Model;
 /// The events that are to come, in the order of their keys, and for one key in the order in which they were put in.
 #[derive(Drop)]
 pub struct Pending<L> {
-    // An event that was put in when no other was to come, and so goes ahead of those with its key.
+    // An event that was put in when no other was to come, and so goes ahead of those with its key, as long as it stands. Where
+    // it was taken it is left as it was.
     near: Option<Event<L>>,
+    stands: bool,
     // All others.
     queue: Queue<L>,
 }
@@ -29,11 +31,11 @@ pub struct Pending<L> {
 impl<L> Model for Pending<L> {
     ghost use Rattle.std.specs.Prelude.{List};
     ghost use Rattle.ss_model.specs.declared.Event.{Event};
-    ghost use Rattle.ss_pending.specs.Near.{with_near};
+    ghost use Rattle.ss_pending.specs.Near.{near_if, with_near};
 
     ghost Value = { List (Event L) };
 
-    ghost view = { λ p. with_near p.near p.queue };
+    ghost view = { λ p. with_near (near_if p.stands p.near) p.queue };
 }
 
 // Whether an event with a key, which goes ahead of those with its key, comes before the first of the others.
@@ -76,6 +78,7 @@ impl<L> Pending<L> {
     {
         Pending {
             near: None,
+            stands: false,
             queue: Queue::new(alloc),
         }
     }
@@ -91,13 +94,15 @@ impl<L> Pending<L> {
     pub fn next_time(&self) -> Option<u64>
         ensures { result ≡ next_time self.now }
     {
-        let Some(near) = &self.near else {
-            return self.queue.next_time();
-        };
-        match self.queue.next_time() {
-            Some(time) if time < near.key.time => Some(time),
-            _ => Some(near.key.time),
+        if self.stands
+            && let Some(near) = &self.near
+        {
+            return match self.queue.next_time() {
+                Some(time) if time < near.key.time => Some(time),
+                _ => Some(near.key.time),
+            };
         }
+        self.queue.next_time()
     }
 
     /// Puts in an event, behind those with its key. It fails only where no memory is left, where 2^64 - 1 events were put
@@ -121,12 +126,19 @@ impl<L> Pending<L> {
         ensures ok { OnOk result (self.new ≡ insert (record { key = key; load = option_copied load.entry }) self.old) }
         ensures err { OnErr result (self.new ≡ self.old) }
     {
-        if self.near.is_none() && self.queue.is_empty() {
-            let load = load.copied();
-            self.near = Some(Event { key, load });
-            return Ok(());
+        let Key { time, class, line } = key;
+        if self.stands || !self.queue.is_empty() {
+            return self.queue.insert(Key { time, class, line }, load);
         }
-        self.queue.insert(key, load)
+        self.stands = true;
+        match load {
+            Some(load) => self.near = Some(Event {
+                key,
+                load: Some(*load),
+            }),
+            None => self.near = Some(Event { key, load: None }),
+        }
+        Ok(())
     }
 
     /// Takes the first event, if it comes before a time in picoseconds. It takes no memory.
@@ -137,13 +149,15 @@ impl<L> Pending<L> {
         ensures some { IfSome result (λ e. (self.old ≡ e ∷ self.new) × (e.key.time < time)) }
         ensures none { IfNone result ((begins_before time self.old ≡ false) × (self.new ≡ self.old)) }
     {
-        if let Some(near) = &self.near
+        if self.stands
+            && let Some(near) = &self.near
             && leads(near.key, self.queue.next_key())
         {
             if near.key.time >= time {
                 return None;
             }
-            return self.near.take();
+            self.stands = false;
+            return self.near;
         }
         self.queue.take_before(time)
     }
@@ -155,7 +169,9 @@ impl<L> Pending<L> {
         ensures { IfOk result (λ v. v.items ≡ self.now) }
     {
         let mut list = self.queue.list()?;
-        if let Some(near) = self.near {
+        if self.stands
+            && let Some(near) = self.near
+        {
             put_ahead(&mut list, near)?;
         }
         Ok(list)
