@@ -1,10 +1,11 @@
 -- Two lists with their firsts: which of them comes first, and what is taken.
-use Rattle.std.proofs.Common.{◌≡◌, ℕ, ◌+◌, ◌<◌, ◌≤◌, ◌⊎◌, inl, inr, Bool, true, false, not, cond, List, [], ◌∷◌, ◌++◌, Option, Some, None, zero, suc, refl, sym, ap, ◌∙◌, subst, arith, rules, length, get_or, Bor, append_assoc, Result, Ok, Err}
+use Rattle.std.proofs.Common.{◌≡◌, ◌<◌, ◌≤◌, ◌⊎◌, inl, inr, Bool, true, false, not, cond, List, [], ◌∷◌, ◌++◌, Option, Some, None, refl, sym, ap, ◌∙◌, subst, arith, rules, length, get_or, Bor, append_assoc, Result, Ok, Err}
 use Rattle.std.proofs.lemmas.Bool.{false≢true}
 use Rattle.std.proofs.lemmas.List.Sorted.{IsPermutation-sym, IsPermutation-trans, IsPermutation-refl, IsPermutation-append_left, IsPermutation-append_right, IsPermutation-middle, IsPermutation-to_front}
 use Rattle.std.specs.List.Sorted.{IsPermutation}
 use Rattle.std.specs.Cmp.{IsTotalOrder, upto}
 use Rattle.std.specs.Cmp.Rules.{comparing}
+use Rattle.std.specs.Prelude.{slice_get}
 use Rattle.std.specs.Result.{OnOk, OnErr}
 use Rattle.std.specs.Option.{option_copied, option_to_list, MatchOption, IfSome, IfNone}
 use Rattle.std.specs.Ordering.{is_lt, is_gt, ordering_reverse}
@@ -12,7 +13,7 @@ use Rattle.std.specs.declared.cmp.Ordering.{Ordering}
 use Rattle.std.specs.declared.cmp.Ordering.TheVariants.{Less, Equal, Greater}
 use Rattle.std.specs.BinaryHeap.{IsUpperBound}
 use Rattle.ss_pending.specs.declared.filed.Filed.{Filed}
-use Rattle.ss_pending.specs.Filed.{is_before, latest_first, In, AllBehind, Ascends, Different, in_order, events, IsFirst, FirstOf, Takes, leads, first_of}
+use Rattle.ss_pending.specs.Filed.{is_before, latest_first, In, AllBehind, Ascends, Different, in_order, events, IsFirst, FirstOf, LastOf, Takes, leads, first_of}
 use Rattle.std.proofs.lemmas.Option.{IfSome_then}
 use Rattle.ss_model.specs.declared.Event.{Event}
 use Rattle.ss_pending.proofs.Sorting.{different_permutation, sorted_permutation, tells, asym, trans, behind, in_permutation, upper, upper_at}
@@ -161,17 +162,18 @@ module _ {L : Type 0} where
       put true h = let k = asym y x h in absurd (false≢true (sym k ∙ subst (λ w. is_before w y ≡ true) (sym e) (subst (λ w. is_before y w ≡ true) e h)))
       put false h = h
 
-  pub front_first : (Q : Bor (Filed L) → Type 0) (r : Option (Bor (Filed L))) (xs : List (Filed L)) → Ascends xs → IfSome r (λ x. x.now ≡ get_or xs 0 x.now) → MatchOption r (length xs ≤ 0) (λ x. (0 < length xs) × Q x) → FirstOf (option_copied r) xs
-  front_first Q None xs a l m = nothing xs m
-  front_first Q (Some x) [] a l m = absurd (omega (arith, m.0))
-  front_first Q (Some x) (y ∷ ys) a l m =
-      let u = run_first y ys a.0 in
-      record { is_there = inl l; first = (itself_upper x.now y l, subst (λ w. IsUpperBound latest_first w ys) (sym l) u) }
-
   pub top_first_of : (Q : Bor (Filed L) → Type 0) (r : Option (Bor (Filed L))) (xs : List (Filed L)) → IfSome r (λ x. IsUpperBound latest_first x.now xs) → IfSome r (λ x. x.now ≡ get_or xs 0 x.now) → MatchOption r (length xs ≤ 0) (λ x. (0 < length xs) × Q x) → FirstOf (option_copied r) xs
   top_first_of Q None xs u l m = nothing xs m
   top_first_of Q (Some x) [] u l m = absurd (omega (arith, m.0))
   top_first_of Q (Some x) (y ∷ ys) u l m = record { is_there = inl l; first = u }
+
+  pub first_front : (o : Option (Filed L)) (xs : List (Filed L)) → Ascends xs → o ≡ slice_get xs 0 → FirstOf o xs
+  first_front None [] a e = refl
+  first_front None (x ∷ xs) a e = absurd (cc)
+  first_front (Some x) [] a e = absurd (cc)
+  first_front (Some x) (y ∷ ys) a e =
+      let same : x ≡ y = cc in
+      record { is_there = inl same; first = (itself_upper x y same, subst (λ w. IsUpperBound latest_first w ys) (sym same) (run_first y ys a.0)) }
 
   pub front_taken : (x : Filed L) (xs ys : List (Filed L)) → xs ≡ x ∷ ys → Ascends xs → Takes x xs ys × Ascends ys
   front_taken x [] ys e a = absurd (cc)
@@ -179,25 +181,18 @@ module _ {L : Type 0} where
       let b : Ascends (x ∷ ys) = subst Ascends e a in
       (record { left = subst (λ ws. IsPermutation ws (x ∷ ys)) (sym e) (IsPermutation-refl (x ∷ ys)); first = run_first x ys b.0 }, b.1)
 
-  in_at : (xs : List (Filed L)) (k : ℕ) (l : Filed L) → k < length xs → l ≡ get_or xs k l → In l xs
-  in_at [] k l h e = absurd (omega arith)
-  in_at (x ∷ xs) zero l h e = inl e
-  in_at (x ∷ xs) (suc k) l h e = inr (in_at xs k l (omega arith) e)
-
   behind_push : (y x : Filed L) (ys : List (Filed L)) → is_before y x ≡ true → AllBehind y ys → AllBehind y (ys ++ x ∷ [])
   behind_push y x [] h b = (h, tt)
   behind_push y x (z ∷ zs) h b = (b.0, behind_push y x zs h b.1)
 
-  pub ascends_push : (xs : List (Filed L)) (k : ℕ) (l x : Filed L) → Ascends xs → k + 1 ≡ length xs → l ≡ get_or xs k l → is_before l x ≡ true → Ascends (xs ++ x ∷ [])
-  ascends_push [] k l x a e m h = absurd (omega arith)
-  ascends_push (y ∷ []) zero l x a e m h = ((subst (λ w. is_before w x ≡ true) m h, tt), (tt, tt))
-  ascends_push (y ∷ z ∷ zs) zero l x a e m h = absurd (omega arith)
-  ascends_push (y ∷ ys) (suc k) l x a e m h =
-      (behind_push y x ys (trans y l x (behind y l ys a.0 (in_at ys k l (omega arith) m)) h) a.0, ascends_push ys k l x a.1 (omega arith) m h)
+  -- what comes behind the last ascends, too
+  pub ascends_behind : (ys : List (Filed L)) (l x : Filed L) → Ascends (ys ++ l ∷ []) → is_before l x ≡ true → Ascends ((ys ++ l ∷ []) ++ x ∷ [])
+  ascends_behind [] l x a h = ((h, tt), (tt, tt))
+  ascends_behind (y ∷ ys) l x a h =
+      (behind_push y x (ys ++ l ∷ []) (trans y l x (behind y l (ys ++ l ∷ []) a.0 (in_right l ys (l ∷ []) (inl refl))) h) a.0, ascends_behind ys l x a.1 h)
 
-  pub ascends_one : (xs : List (Filed L)) (x : Filed L) → length xs ≤ 0 → Ascends (xs ++ x ∷ [])
-  ascends_one [] x h = (tt, tt)
-  ascends_one (y ∷ ys) x h = absurd (omega arith)
+  pub last_ascends : (l x : Filed L) (xs : List (Filed L)) → LastOf (Some l) xs → Ascends xs → is_before l x ≡ true → Ascends (xs ++ x ∷ [])
+  last_ascends l x xs t a h = subst (λ ws. Ascends (ws ++ x ∷ [])) (sym t.1) (ascends_behind t.0 l x (subst Ascends t.1 a) h)
 
   pub front_takes : (r : Option (Filed L)) (xs ys : List (Filed L)) → xs ≡ option_to_list r ++ ys → Ascends xs → IfSome r (λ x. Takes x xs ys)
   front_takes None xs ys e a = tt
@@ -225,14 +220,6 @@ module _ {L : Type 0} where
   pub kept : (P : List (Filed L) → Type 0) → ((x : Filed L) (old new : List (Filed L)) → Takes x old new → P old → P new) → (r : Option (Filed L)) (old new : List (Filed L)) → IfSome r (λ x. Takes x old new) → IfNone r (new ≡ old) → P old → P new
   kept P keeps None old new t n h = subst P (sym n) h
   kept P keeps (Some x) old new t n h = keeps x old new t h
-
-  pub none_left : (r : Option (Filed L)) (xs ys zs : List (Filed L)) → IfNone r ((xs ≡ []) × (zs ≡ [])) → IfNone r (zs ++ ys ≡ xs ++ ys)
-  none_left None xs ys zs n = ap (λ w. w ++ ys) (n.1 ∙ sym n.0)
-  none_left (Some x) xs ys zs n = tt
-
-  pub none_right : (r : Option (Filed L)) (xs ys zs : List (Filed L)) → IfNone r ((ys ≡ []) × (zs ≡ [])) → IfNone r (xs ++ zs ≡ xs ++ ys)
-  none_right None xs ys zs n = ap (λ w. xs ++ w) (n.1 ∙ sym n.0)
-  none_right (Some x) xs ys zs n = tt
 
   -- ---- lists of all
 

@@ -75,6 +75,11 @@ module _ {L : Type 0} where
   FirstOf None xs = xs ≡ []
   FirstOf (Some x) xs = IsFirst x xs
 
+  -- the list has a last, or nothing
+  abbrev pub LastOf : Option (Filed L) → List (Filed L) → Type 0
+  LastOf None xs = xs ≡ []
+  LastOf (Some x) xs = (ys : List (Filed L)) × (xs ≡ ys ++ x ∷ [])
+
   -- the first of two
   abbrev pub leads : Option (Filed L) → Option (Filed L) → Bool
   leads None y = false

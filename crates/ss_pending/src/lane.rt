@@ -5,8 +5,9 @@ ghost use Rattle.std.specs.BinaryHeap.{heap_items, heap_len, IsHeap};
 ghost use Rattle.ss_pending.specs.Filed.{is_before, latest_first, AllBelow, Ascends, FirstOf, Takes, leads, first_of};
 
 use crate::filed::Filed;
+use crate::run::Run;
 use std::alloc::{AllocError, Global};
-use std::collections::{BinaryHeap, VecDeque};
+use std::collections::BinaryHeap;
 use std::marker::Model;
 
 /// Whether the first of two lists comes first, where both firsts are given. It is the second where there is no first.
@@ -23,7 +24,7 @@ pub fn leads<L>(first: Option<&Filed<L>>, second: Option<&Filed<L>>) -> bool
 /// Events of which most are put in in the order in which they come: those stand in a run, and the others in a heap.
 #[derive(Drop)]
 pub struct Lane<L> {
-    run: VecDeque<Filed<L>>,
+    run: Run<L>,
     heap: BinaryHeap<Filed<L>>,
 }
 
@@ -35,17 +36,17 @@ impl<L> Model for Lane<L> {
 
     ghost Value = { List (Filed L) };
 
-    ghost view = { λ l. l.run.items ++ heap_items l.heap };
+    ghost view = { λ l. l.run ++ heap_items l.heap };
 
-    ghost invariant = { λ l. IsFiled l.run.items (heap_items l.heap) };
+    ghost invariant = { λ l. IsFiled l.run (heap_items l.heap) };
 }
 
 // The first event of a run.
-fn front<L>(run: &VecDeque<Filed<L>>) -> Option<&Filed<L>>
-    requires { Ascends run.now.items }
-    ensures { FirstOf (option_copied result) run.now.items }
+fn front<L>(run: &Run<L>) -> Option<&Filed<L>>
+    requires { Ascends run.now }
+    ensures { FirstOf (option_copied result) run.now }
 {
-    run.front()
+    run.first()
 }
 
 // The first event of a heap.
@@ -57,13 +58,13 @@ fn top<L>(heap: &BinaryHeap<Filed<L>>) -> Option<&Filed<L>>
 }
 
 // Takes the first event of a run.
-fn take_front<L>(run: &mut VecDeque<Filed<L>>) -> Option<Filed<L>>
-    requires { Ascends run.old.items }
-    ensures some { IfSome result (λ x. Takes x run.old.items run.new.items) }
-    ensures none { IfNone result ((run.old.items ≡ []) × (run.new.items ≡ [])) }
-    ensures ascends { Ascends run.new.items }
+fn take_front<L>(run: &mut Run<L>) -> Option<Filed<L>>
+    requires { Ascends run.old }
+    ensures some { IfSome result (λ x. Takes x run.old run.new) }
+    ensures none { IfNone result ((run.old ≡ []) × (run.new ≡ [])) }
+    ensures ascends { Ascends run.new }
 {
-    run.pop_front()
+    run.pop()
 }
 
 /// Takes the first event of a heap.
@@ -78,16 +79,6 @@ pub fn take_top<L>(heap: &mut BinaryHeap<Filed<L>>) -> Option<Filed<L>>
     heap.pop()
 }
 
-// Puts an event behind those of a run.
-#[inline(always)]
-fn push_back<L: Drop>(run: &mut VecDeque<Filed<L>>, filed: Filed<L>) -> Result<(), AllocError>
-    ensures ok { OnOk result (run.new.items ≡ run.old.items ++ filed ∷ []) }
-    ensures err { OnErr result (run.new.items ≡ run.old.items) }
-{
-    run.push_back(filed)?;
-    Ok(())
-}
-
 // Puts an event into a heap.
 #[inline(never)]
 fn push<L: Drop>(heap: &mut BinaryHeap<Filed<L>>, filed: Filed<L>) -> Result<(), AllocError>
@@ -100,25 +91,12 @@ fn push<L: Drop>(heap: &mut BinaryHeap<Filed<L>>, filed: Filed<L>) -> Result<(),
     Ok(())
 }
 
-// Copies the events of a run behind those of a list.
-fn copy_run<L: Copy + Drop>(
-    run: &VecDeque<Filed<L>>,
-    list: &mut Vec<Filed<L>>,
-) -> Result<(), AllocError>
-    ensures { OnOk result (list.new.items ≡ list.old.items ++ run.now.items) }
-{
-    for filed in run {
-        list.push(*filed)?;
-    }
-    Ok(())
-}
-
 // Whether an event comes behind those of a run.
-fn is_behind<L>(run: &VecDeque<Filed<L>>, filed: &Filed<L>) -> bool
-    requires { Ascends run.now.items }
-    ensures { result ≡ true → Ascends (run.now.items ++ filed.now ∷ []) }
+fn is_behind<L>(run: &Run<L>, filed: &Filed<L>) -> bool
+    requires { Ascends run.now }
+    ensures { result ≡ true → Ascends (run.now ++ filed.now ∷ []) }
 {
-    match run.back() {
+    match run.last() {
         Some(last) => last.is_before(filed),
         None => true,
     }
@@ -140,7 +118,7 @@ impl<L> Lane<L> {
         ensures { result ≡ [] }
     {
         Lane {
-            run: VecDeque::new(alloc),
+            run: Run::new(alloc),
             heap: BinaryHeap::new(alloc),
         }
     }
@@ -156,12 +134,12 @@ impl<L> Lane<L> {
     #[inline(always)]
     pub fn put(&mut self, filed: Filed<L>) -> Result<(), AllocError>
     where
-        L: Drop,
+        L: Copy + Drop,
         ensures ok { OnOk result (IsPermutation (filed ∷ self.old) self.new) }
         ensures err { OnErr result (self.new ≡ self.old) }
     {
         if is_behind(&self.run, &filed) {
-            push_back(&mut self.run, filed)
+            self.run.push(filed)
         } else {
             push(&mut self.heap, filed)
         }
@@ -171,7 +149,7 @@ impl<L> Lane<L> {
     #[inline(never)]
     pub fn put_aside(&mut self, filed: Filed<L>) -> Result<(), AllocError>
     where
-        L: Drop,
+        L: Copy + Drop,
         ensures ok { OnOk result (IsPermutation (filed ∷ self.old) self.new) }
         ensures err { OnErr result (self.new ≡ self.old) }
     {
@@ -209,7 +187,7 @@ impl<L> Lane<L> {
         L: Copy + Drop,
         ensures { OnOk result (list.new.items ≡ list.old.items ++ self.now) }
     {
-        copy_run(&self.run, list)?;
+        self.run.copy_to(list)?;
         list.extend_from_slice(self.heap.as_slice())?;
         Ok(())
     }

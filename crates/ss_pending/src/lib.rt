@@ -11,6 +11,7 @@ mod lane;
 mod loads;
 mod queue;
 mod road;
+mod run;
 
 use queue::Queue;
 use ss_model::{Event, Key};
