@@ -35,21 +35,23 @@ pub use wires::Wires;
 /// The actions of a call, in order.
 #[derive(Drop)]
 pub struct Acts<L> {
-    // As far as `next`, those that were taken have left others in their places, and those passed by stay.
+    // The actions stand from `next` to `end`. In front of them, those that were taken have left others in their places,
+    // and those passed by stay. What stands behind them is left over from before a `clear`, and is written over.
     items: Vec<Action<L>>,
     next: usize,
+    end: usize,
     alloc: Global,
 }
 
 impl<L> std::marker::Model for Acts<L> {
-    ghost use Rattle.std.specs.Prelude.{List, length, drop, ◌≤◌};
+    ghost use Rattle.std.specs.Prelude.{List, length, take, drop, ◌≤◌};
     ghost use Rattle.ss_model.specs.declared.Action.{Action};
 
     ghost Value = { List (Action L) };
 
-    ghost view = { λ a. drop a.next a.items.items };
+    ghost view = { λ a. drop a.next (take a.end a.items.items) };
 
-    ghost invariant = { λ a. a.next ≤ length a.items.items };
+    ghost invariant = { λ a. (a.next ≤ a.end) × (a.end ≤ length a.items.items) };
 }
 
 impl<L> Acts<L> {
@@ -60,6 +62,7 @@ impl<L> Acts<L> {
         Acts {
             items: Vec::new(alloc),
             next: 0,
+            end: 0,
             alloc,
         }
     }
@@ -70,10 +73,11 @@ impl<L> Acts<L> {
     }
 
     // Those that are left.
+    #[tactic(auto, using(crate::proofs::Actions::part))]
     fn left(&self) -> &[Action<L>]
         ensures { result.now ≡ self.now }
     {
-        &self.items[self.next..]
+        &self.items[self.next..self.end]
     }
 
     /// Adds an action behind the others. After an error the actions are as before.
@@ -84,32 +88,54 @@ impl<L> Acts<L> {
         ensures ok { OnOk result (self.new ≡ self.old ++ action ∷ []) }
         ensures err { OnErr result (self.new ≡ self.old) }
     {
+        if self.end < self.items.len() {
+            self.items[self.end] = action;
+            self.end += 1;
+            Ok(())
+        } else {
+            self.grow(action)
+        }
+    }
+
+    // Adds an action behind the others where nothing is left over to be written over.
+    #[cold]
+    #[inline(never)]
+    fn grow(&mut self, action: Action<L>) -> Result<(), AllocError>
+    where
+        L: Drop,
+        ensures ok { OnOk result (self.new ≡ self.old ++ action ∷ []) }
+        ensures err { OnErr result (self.new ≡ self.old) }
+    {
+        self.items.truncate(self.end);
         self.items.push(action)?;
+        self.end = self.items.len();
         Ok(())
     }
 
     /// Takes the first action. The buffer stays allocated, and once it is cleared it is filled again without taking
     /// memory.
     #[inline(always)]
+    #[tactic(auto, using(crate::proofs::Actions::left_behind, crate::proofs::Actions::first_of_part))]
     pub fn take(&mut self) -> Option<Action<L>>
         ensures some { IfSome result (λ a. self.old ≡ a ∷ self.new) }
         ensures none { IfNone result ((self.old ≡ []) × (self.new ≡ [])) }
     {
         let place = self.next;
-        if place >= self.items.len() {
+        if place >= self.end {
             return None;
         }
         self.next += 1;
         Some(mem::replace(&mut self.items[place], Action::ClockOff { clock: 0 }))
     }
 
-    /// Passes by the first action, where there is one: it stays where it stands until the actions are cleared. It
+    /// Passes by the first action, where there is one: it stays where it stands until another is written over it. It
     /// takes no memory.
     #[inline(always)]
+    #[tactic(auto, using(crate::proofs::Actions::passed))]
     pub fn skip(&mut self)
         ensures { self.new ≡ drop 1 self.old }
     {
-        if self.next < self.items.len() {
+        if self.next < self.end {
             self.next += 1;
         }
     }
@@ -135,13 +161,14 @@ impl<L> Acts<L> {
         self.left().get(index)
     }
 
-    /// Lets all actions go. The buffer stays allocated.
+    /// Leaves no actions, in constant time. The buffer stays allocated, and what the actions hold is let go when others
+    /// are written over them.
     pub fn clear(&mut self)
     where
         L: Drop,
         ensures { self.new ≡ [] }
     {
-        self.items.clear();
+        self.end = 0;
         self.next = 0;
     }
 

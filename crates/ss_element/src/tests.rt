@@ -116,6 +116,29 @@ fn actions_are_passed_by(rt: HostRuntime) -> Result<(), AllocError> {
     Ok(())
 }
 
+#[test]
+fn actions_are_written_over(rt: HostRuntime) -> Result<(), AllocError> {
+    let mut acts: Acts<u64> = Acts::new(rt.alloc());
+    for clock in 0..3 {
+        acts.push(Action::ClockOn { clock })?;
+    }
+    acts.skip();
+    acts.clear();
+    assert!(rt; acts.take().is_none());
+    acts.push(Action::ClockOff { clock: 5 })?;
+    assert_eq!(rt; acts.len(), 1);
+    assert!(rt; acts.turns_off(5));
+    assert!(rt; matches!(acts.take(), Some(Action::ClockOff { clock: 5 })));
+    assert!(rt; acts.is_empty());
+    for clock in 6..10 {
+        acts.push(Action::ClockOff { clock })?;
+    }
+    assert_eq!(rt; acts.len(), 4);
+    assert!(rt; matches!(acts.get(0), Some(Action::ClockOff { clock: 6 })));
+    assert!(rt; matches!(acts.get(3), Some(Action::ClockOff { clock: 9 })));
+    Ok(())
+}
+
 /// No values of a round trip, and none in bins of 5 from 10 on.
 fn no_values(alloc: Global) -> Result<StatSet, AllocError>
     ensures { IfOk result (λ s. length s ≡ 2) }
