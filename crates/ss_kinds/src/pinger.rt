@@ -47,14 +47,15 @@ impl Pinger {
     {
         let (name, mut digits, mut times) = (self.name.as_str(), Buffer::new(), Buffer::new());
         let (number, time) = (digits.format(n), times.format(now));
-        let mut text = String::with_capacity(alloc, name.len() + number.len() + time.len() + 15)?;
-        text.push_str(name)?;
-        text.push_str(": pong ")?;
-        text.push_str(number)?;
-        text.push_str(" at ")?;
-        text.push_str(time)?;
-        text.push_str(" ps\n")?;
-        Ok(Text::from_string(text))
+        let room = name.len() + number.len() + time.len() + 15;
+        let mut text = Text::with_capacity(alloc, room)?;
+        text.push_str(alloc, name)?;
+        text.push_str(alloc, ": pong ")?;
+        text.push_str(alloc, number)?;
+        text.push_str(alloc, " at ")?;
+        text.push_str(alloc, time)?;
+        text.push_str(alloc, " ps\n")?;
+        Ok(text)
     }
 
     /// Sends a number, and notes it.

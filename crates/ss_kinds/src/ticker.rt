@@ -63,14 +63,15 @@ impl Ticker {
     {
         let (name, mut digits, mut times) = (self.name.as_str(), Buffer::new(), Buffer::new());
         let (tick, time) = (digits.format(self.ticks), times.format(now));
-        let mut text = String::with_capacity(alloc, name.len() + tick.len() + time.len() + 15)?;
-        text.push_str(name)?;
-        text.push_str(": tick ")?;
-        text.push_str(tick)?;
-        text.push_str(" at ")?;
-        text.push_str(time)?;
-        text.push_str(" ps\n")?;
-        Ok(Text::from_string(text))
+        let room = name.len() + tick.len() + time.len() + 15;
+        let mut text = Text::with_capacity(alloc, room)?;
+        text.push_str(alloc, name)?;
+        text.push_str(alloc, ": tick ")?;
+        text.push_str(alloc, tick)?;
+        text.push_str(alloc, " at ")?;
+        text.push_str(alloc, time)?;
+        text.push_str(alloc, " ps\n")?;
+        Ok(text)
     }
 
     /// What is printed when a number comes.
@@ -81,16 +82,16 @@ impl Ticker {
         let (name, mut digits, mut times) = (self.name.as_str(), Buffer::new(), Buffer::new());
         let (number, time) = (digits.format(n), times.format(now));
         let room = name.len() + number.len() + time.len() + 24;
-        let mut text = String::with_capacity(alloc, room)?;
-        text.push_str(name)?;
-        text.push_str(": event ")?;
-        text.push_str(number)?;
-        text.push_str(" on ")?;
-        text.push_str(port_label(port))?;
-        text.push_str(" at ")?;
-        text.push_str(time)?;
-        text.push_str(" ps\n")?;
-        Ok(Text::from_string(text))
+        let mut text = Text::with_capacity(alloc, room)?;
+        text.push_str(alloc, name)?;
+        text.push_str(alloc, ": event ")?;
+        text.push_str(alloc, number)?;
+        text.push_str(alloc, " on ")?;
+        text.push_str(alloc, port_label(port))?;
+        text.push_str(alloc, " at ")?;
+        text.push_str(alloc, time)?;
+        text.push_str(alloc, " ps\n")?;
+        Ok(text)
     }
 
     /// Prints a tick that was counted, sends its number where that leads anywhere, and turns the clock off

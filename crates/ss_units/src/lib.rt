@@ -1,60 +1,16 @@
 //! Texts, lists, quantities with units, and decimal digits.
 #![tactic(auto)]
 
-ghost use Rattle.std.specs.Prelude.{◌≡◌, ◌++◌, string_bytes, decimal, IfOk, OnOk, OnErr};
+ghost use Rattle.std.specs.Prelude.{◌≡◌, ◌++◌, decimal, OnOk, OnErr};
 
+mod text;
 mod units;
 
 use itoa::Buffer;
 use std::alloc::{AllocError, Global};
 use std::marker::Model;
+pub use text::Text;
 pub use units::{UnitFault, bits_of, flit_time, period_of, ps_of, rate_of};
-
-/// UTF-8 text, which contracts see as the list of its bytes.
-#[derive(Drop)]
-pub struct Text {
-    inner: String,
-}
-
-impl Model for Text {
-    ghost use Rattle.std.specs.Prelude.{ℕ, List, string_bytes};
-
-    ghost Value = { List ℕ };
-
-    ghost view = { λ t. string_bytes t.inner };
-}
-
-impl Text {
-    /// A text with the bytes of `text`. It fails only where no memory is left.
-    pub fn new(alloc: Global, text: &str) -> Result<Text, AllocError>
-        ensures { IfOk result (λ t. t ≡ text.now) }
-    {
-        let inner = String::from_str(alloc, text)?;
-        Ok(Text { inner })
-    }
-
-    /// A text that equals this one. It fails only where no memory is left.
-    pub fn copy(&self, alloc: Global) -> Result<Text, AllocError>
-        ensures { IfOk result (λ t. t ≡ self.now) }
-    {
-        let inner = String::from_str(alloc, self.inner.as_str())?;
-        Ok(Text { inner })
-    }
-
-    /// The text that a string holds. It takes no memory.
-    pub fn from_string(inner: String) -> Text
-        ensures { result ≡ string_bytes inner }
-    {
-        Text { inner }
-    }
-
-    /// The text itself, as a string slice.
-    pub fn as_str(&self) -> &str
-        ensures { result.now ≡ self.now }
-    {
-        self.inner.as_str()
-    }
-}
 
 /// A list of values, which contracts see as the list of its items.
 #[derive(Drop)]

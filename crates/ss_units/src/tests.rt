@@ -38,6 +38,25 @@ fn lists_of_texts(rt: HostRuntime) -> Result<(), AllocError> {
 }
 
 #[test]
+fn texts_grow(rt: HostRuntime) -> Result<(), AllocError> {
+    let mut text = Text::with_capacity(rt.alloc(), 0)?;
+    assert_eq!(rt; text.as_str(), "");
+    text.push_str(rt.alloc(), "")?;
+    text.push_str(rt.alloc(), "a text of 20 bytes, ")?;
+    assert_eq!(rt; text.as_str(), "a text of 20 bytes, ");
+    text.push_str(rt.alloc(), "and then another 20.")?;
+    assert_eq!(rt; text.as_str(), "a text of 20 bytes, and then another 20.");
+    text.push_str(rt.alloc(), "!")?;
+    assert_eq!(rt; text.as_str(), "a text of 20 bytes, and then another 20.!");
+    text.push_str(rt.alloc(), " Long.")?;
+    assert_eq!(rt;
+        text.copy(rt.alloc())?.as_str(),
+        "a text of 20 bytes, and then another 20.! Long."
+    );
+    Ok(())
+}
+
+#[test]
 fn times(rt: HostRuntime) {
     for (text, want) in [
         ("1.5ns", Ok(1500)),
