@@ -154,11 +154,23 @@ impl<L> Pending<L> {
             && let Some(near) = &self.near
             && leads(near.key, self.queue.next_key())
         {
-            if near.key.time >= time {
+            // Field by field, as the key was written: read back at once as a whole it would have to wait for its parts.
+            let Key {
+                time: at,
+                class,
+                line,
+            } = near.key;
+            if at >= time {
                 return None;
             }
+            let key = Key {
+                time: at,
+                class,
+                line,
+            };
+            let load = near.load;
             self.stands = false;
-            return self.near;
+            return Some(Event { key, load });
         }
         self.queue.take_before(time)
     }
