@@ -9,9 +9,13 @@ use Rattle.ss_element.specs.declared.flow.Flow.{Flow}
 use Rattle.mr_flow.specs.declared.Load.{Load}
 use Rattle.mr_flow.specs.declared.Load.TheVariants as load
 
+-- what is sent out of the first port
+abbrev pub sent : Load → Action Load
+sent x = action.Send 0 0 x
+
 -- a number that is sent out of the first port
 abbrev pub sends : ℕ → Action Load
-sends n = action.Send 0 0 (load.Core n)
+sends n = sent (load.Core n)
 
 -- nothing changes, and nothing is asked for
 abbrev pub still : {S : Type 0} → S → Reaction S Load

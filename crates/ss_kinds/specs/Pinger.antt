@@ -32,15 +32,19 @@ thrown p n now = record p { sent = n; at = now }
 abbrev pub returned : Pinger → ℕ → Pinger
 returned p now = record p { got = min (p.got + 1) p.count; stats = tallied p.stats (stat_text stat.Roundtrip) (now - p.at) }
 
+-- a number came back, is printed, and the next is sent, where one is to be
+abbrev pub number_back : Pinger → ℕ → ℕ → Reaction Pinger Load
+number_back p n now =
+    if nat_lt p.sent p.count
+    then record { state = thrown (returned p now) (p.sent + 1) now; actions = action.Print (pong_text p.name n now) ∷ sends (p.sent + 1) ∷ [] }
+    else record { state = returned p now; actions = action.Print (pong_text p.name n now) ∷ [] }
+
 abbrev pub pinger_handled : Pinger → ℕ → Cause Load → Reaction Pinger Load
 pinger_handled p now cause.Start =
     if nat_lt 0 p.count
     then record { state = thrown p 1 now; actions = sends 1 ∷ [] }
     else still p
-pinger_handled p now (cause.Link port (load.Core n)) =
-    if nat_lt p.sent p.count
-    then record { state = thrown (returned p now) (p.sent + 1) now; actions = action.Print (pong_text p.name n now) ∷ sends (p.sent + 1) ∷ [] }
-    else record { state = returned p now; actions = action.Print (pong_text p.name n now) ∷ [] }
+pinger_handled p now (cause.Link port (load.Core n)) = number_back p n now
 pinger_handled p now (cause.Link port (load.Net y)) = still p
 pinger_handled p now (cause.Own line x) = still p
 pinger_handled p now (cause.Tick clock) = still p

@@ -8,7 +8,7 @@ ghost use Rattle.ss_kinds.specs.Names.{stat_text};
 ghost use Rattle.ss_kinds.specs.Number.{no_channel};
 ghost use Rattle.ss_kinds.specs.Echo.{echo_handled, echo_form};
 
-use crate::number::{cause_fits, send};
+use crate::number::{cause_fits, send_load};
 use mr_flow::{Load, read_core_load};
 use ss_element::{Acts, Element, Flow, RestoreFault, restore_stats, save_stats};
 use ss_model::{Action, Cause};
@@ -54,7 +54,7 @@ impl Echo {
                 };
                 tally(&mut self.stats, self.received, *n as u64);
                 if self.delay == 0 {
-                    send(*n, acts)
+                    send_load(load, acts)
                 } else {
                     acts.push(Action::SelfSend {
                         line: 0,
@@ -67,7 +67,7 @@ impl Echo {
                 let Load::Core { n } = load else {
                     return Ok(());
                 };
-                send(*n, acts)
+                send_load(load, acts)
             }
             Cause::Start | Cause::Tick { .. } => Ok(()),
         }

@@ -1,22 +1,43 @@
 //! The numbers that core kinds send each other.
 
 ghost use Rattle.std.specs.Prelude.{◌≡◌, ◌∷◌, [], ◌++◌, OnOk};
-ghost use Rattle.ss_kinds.specs.Number.{sends, load_fits, cause_fits};
+ghost use Rattle.mr_flow.specs.declared.Load.TheVariants as net;
+ghost use Rattle.ss_kinds.specs.Number.{sent, sends, load_fits, cause_fits};
 
 use mr_flow::Load;
 use ss_element::Acts;
 use ss_model::{Action, Cause};
 use std::alloc::AllocError;
 
-/// Sends a number out of the first port.
-pub fn send(n: u32, acts: &mut Acts<Load>) -> Result<(), AllocError>
-    ensures { OnOk result (acts.new ≡ acts.old ++ sends n ∷ []) }
+/// Sends a copy of a load out of the first port.
+pub fn send_load(load: &Load, acts: &mut Acts<Load>) -> Result<(), AllocError>
+    ensures { OnOk result (acts.new ≡ acts.old ++ sent load.now ∷ []) }
 {
     acts.push(Action::Send {
         port: 0,
         extra: 0,
-        load: Load::Core { n },
+        load: *load,
     })
+}
+
+/// Sends a number out of the first port.
+pub fn send(n: u32, acts: &mut Acts<Load>) -> Result<(), AllocError>
+    ensures { OnOk result (acts.new ≡ acts.old ++ sends n ∷ []) }
+{
+    send_load(&Load::Core { n }, acts)
+}
+
+/// A number in a copy of the load that came. A load is as large as a packet, and is copied faster than it is made anew.
+pub fn number_in(came: &Load, n: u32) -> Load
+    ensures { result ≡ net.Core n }
+{
+    let mut load = *came;
+    if let Load::Core { n: number } = &mut load {
+        *number = n;
+        load
+    } else {
+        Load::Core { n }
+    }
 }
 
 /// Whether a load is a number.

@@ -1,14 +1,15 @@
 //! A pinger.
 
-ghost use Rattle.std.specs.Prelude.{◌≡◌, ◌<◌, ◌^◌, ◌∷◌, [], ◌++◌, OnOk, IfOk};
+ghost use Rattle.std.specs.Prelude.{◌≡◌, ◌<◌, ◌+◌, ◌^◌, ◌∷◌, [], ◌++◌, OnOk, IfOk};
 ghost use Rattle.ss_stats.specs.Set.{place_of};
 ghost use Rattle.ss_element.specs.Gives.{Tells};
 ghost use Rattle.ss_kinds.specs.declared.names.StatName.TheVariants.{Roundtrip};
 ghost use Rattle.ss_kinds.specs.Names.{stat_text};
+ghost use Rattle.mr_flow.specs.declared.Load.TheVariants as net;
 ghost use Rattle.ss_kinds.specs.Number.{sends, no_channel};
-ghost use Rattle.ss_kinds.specs.Pinger.{pong_text, thrown, pinger_handled, pinger_form};
+ghost use Rattle.ss_kinds.specs.Pinger.{pong_text, thrown, number_back, pinger_handled, pinger_form};
 
-use crate::number::{cause_fits, send};
+use crate::number::{cause_fits, number_in, send, send_load};
 use itoa::Buffer;
 use mr_flow::{Load, read_core_load};
 use ss_element::{Acts, Element, Flow, RestoreFault, restore_stats, save_stats};
@@ -68,6 +69,44 @@ impl Pinger {
         send(n, acts)
     }
 
+    /// What comes next after a number that came back, as a load: the next number, where one is to be sent.
+    fn next_in(&self, came: &Load) -> Load
+        ensures { self.now.sent < self.now.count → result ≡ net.Core (self.now.sent + 1) }
+    {
+        if self.sent < self.count {
+            number_in(came, self.sent + 1)
+        } else {
+            *came
+        }
+    }
+
+    /// Takes in a number that came back. The load that goes on is made before the text is, so that it has long been stored
+    /// when it is copied: read back at once it would have to wait for its parts.
+    fn take_back(
+        &mut self,
+        n: u32,
+        came: &Load,
+        now: u64,
+        acts: &mut Acts<Load>,
+    ) -> Result<(), AllocError>
+        requires { self.old.roundtrip ≡ place_of self.old.stats (stat_text Roundtrip) }
+        ensures state { OnOk result (self.new ≡ (number_back self.old n now).state) }
+        ensures actions { OnOk result (acts.new ≡ acts.old ++ (number_back self.old n now).actions) }
+    {
+        let next = self.next_in(came);
+        let text = self.pong_text(acts.allocator(), n, now)?;
+        acts.push(Action::Print { text })?;
+        let taken = now.saturating_sub(self.at);
+        tally(&mut self.stats, self.roundtrip, taken);
+        self.got = self.got.saturating_add(1).min(self.count);
+        if self.sent < self.count {
+            self.sent += 1;
+            self.at = now;
+            send_load(&next, acts)?;
+        }
+        Ok(())
+    }
+
     /// What a pinger does.
     pub(crate) fn react(
         &mut self,
@@ -90,15 +129,7 @@ impl Pinger {
                 let Load::Core { n } = load else {
                     return Ok(());
                 };
-                let text = self.pong_text(acts.allocator(), *n, now)?;
-                acts.push(Action::Print { text })?;
-                let taken = now.saturating_sub(self.at);
-                tally(&mut self.stats, self.roundtrip, taken);
-                self.got = self.got.saturating_add(1).min(self.count);
-                if self.sent < self.count {
-                    self.throw(self.sent + 1, now, acts)?;
-                }
-                Ok(())
+                self.take_back(*n, load, now, acts)
             }
             Cause::Own { .. } | Cause::Tick { .. } => Ok(()),
         }
