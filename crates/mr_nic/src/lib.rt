@@ -6,6 +6,7 @@ mod nic;
 mod numbers;
 mod pattern;
 mod state;
+mod station;
 mod test_nic;
 mod traffic;
 

@@ -358,7 +358,7 @@ impl Endpoint {
     }
 
     #[tactic(auto, using(crate::proofs::Shapes::places_same, crate::proofs::Shapes::shape_through), unfolding(crate::specs::Endpoint::ticked))]
-    fn tick(&mut self, now: u64, acts: &mut Acts<Load>) -> Result<(), AllocError>
+    pub(crate) fn tick(&mut self, now: u64, acts: &mut Acts<Load>) -> Result<(), AllocError>
         requires early { now < 2 ^ 62 }
         requires can { CanTick self.old }
         ensures state { OnOk result (self.new ≡ (ticked self.old now).state) }

@@ -5,6 +5,7 @@ ghost use Rattle.mr_nic.specs.Endpoint.{test_nic};
 
 use crate::nic::{Endpoint, Source};
 use crate::numbers::Numbers;
+use crate::station::Station;
 use mr_flow::{Load, read_net_load};
 use mr_link::NicSettings;
 use ss_element::{Acts, Element, Flow, RestoreFault};
@@ -19,7 +20,7 @@ use std::marker::Model;
 /// the port 0 and the clock 0. Contracts see what every endpoint is.
 #[derive(Drop)]
 pub struct TestNic {
-    nic: Endpoint,
+    nic: Station,
 }
 
 impl Model for TestNic {
@@ -49,7 +50,8 @@ impl TestNic {
         let total = u64::from(set.peers - 1) * u64::from(messages);
         let next = Numbers::zeros(alloc, 0)?;
         let from = Source::Test { verbose };
-        let nic = Endpoint::new(alloc, set, total, flits, from, next, stats)?;
+        let endpoint = Endpoint::new(alloc, set, total, flits, from, next, stats)?;
+        let nic = Station::new(endpoint);
         Ok(TestNic { nic })
     }
 }
@@ -81,7 +83,7 @@ impl Element for TestNic {
     }
 
     fn save(&self, out: &mut Writer) -> Result<(), AllocError> {
-        self.nic.save(out)
+        self.nic.endpoint().save(out)
     }
 
     fn restore(&mut self, _alloc: Global, bytes: &mut Reader<'_>) -> Result<(), RestoreFault> {
@@ -93,11 +95,11 @@ impl Element for TestNic {
     }
 
     fn fits(&self, at: u64) -> bool {
-        self.nic.fits(at)
+        self.nic.endpoint().fits(at)
     }
 
     fn fits_load(&self, cause: &Cause<Load>, at: u64) -> bool {
-        self.nic.fits_load(cause, at)
+        self.nic.endpoint().fits_load(cause, at)
     }
 
     fn is_primary(&self) -> bool {
@@ -105,23 +107,23 @@ impl Element for TestNic {
     }
 
     fn is_done(&self) -> bool {
-        self.nic.is_done()
+        self.nic.endpoint().is_done()
     }
 
     fn clock_on(&self, clock: u16) -> bool {
-        self.nic.clock_on(clock)
+        self.nic.endpoint().clock_on(clock)
     }
 
     fn channels(&self, port: u16) -> u16 {
-        self.nic.channels(port)
+        self.nic.endpoint().channels(port)
     }
 
     fn flow(&self, port: u16, channel: u8) -> Flow {
-        self.nic.flow(port, channel)
+        self.nic.endpoint().flow(port, channel)
     }
 
     fn stats(&self) -> &StatSet {
-        self.nic.stats()
+        self.nic.endpoint().stats()
     }
 }
 

@@ -3,9 +3,11 @@
 ghost use Rattle.std.specs.Prelude.{◌≡◌, IfOk};
 ghost use Rattle.mr_nic.specs.Pattern.{IsFor};
 
-use crate::{Pattern, TestNic, TrafficGen, destination};
+use crate::station::Station;
+use crate::{Endpoint, Numbers, Pattern, Source, TestNic, TrafficGen, destination};
 use mr_link::NicSettings;
-use ss_element::Element;
+use ss_element::{Acts, Element};
+use ss_model::Cause;
 use ss_stats::StatSet;
 use ss_units::Text;
 use std::alloc::{AllocError, Global};
@@ -68,5 +70,24 @@ fn endpoints_are_made(rt: HostRuntime) -> Result<(), AllocError> {
     let nic = TrafficGen::new(rt.alloc(), set, Pattern::Hotspot, 10, 8, 0, 0, 0, stats)?;
     assert!(rt; nic.is_done());
     crosses(nic);
+    Ok(())
+}
+
+// Its packets find no room, and its line is busy.
+#[test]
+fn a_tick_that_changes_nothing_is_noted(rt: HostRuntime) -> Result<(), AllocError> {
+    let set = settings(rt.alloc())?;
+    let from = Source::Test { verbose: false };
+    let next = Numbers::zeros(rt.alloc(), 0)?;
+    let stats = StatSet::new(rt.alloc());
+    let mut endpoint = Endpoint::new(rt.alloc(), set, 3, 9, from, next, stats)?;
+    endpoint.link.set_line(4000, 0);
+    let mut station = Station::new(endpoint);
+    let mut acts = Acts::new(rt.alloc());
+    station.handle(1000, &Cause::Tick { clock: 0 }, &mut acts)?;
+    assert!(rt; !station.is_quiet(999) && station.is_quiet(1000));
+    assert!(rt; station.is_quiet(3999) && !station.is_quiet(4000));
+    station.handle(2000, &Cause::Start, &mut acts)?;
+    assert!(rt; !station.is_quiet(2000));
     Ok(())
 }

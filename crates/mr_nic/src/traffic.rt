@@ -7,6 +7,7 @@ ghost use Rattle.mr_nic.specs.Pattern.{IsFor};
 use crate::nic::{Endpoint, Source};
 use crate::numbers::Numbers;
 use crate::pattern::{Pattern, destination};
+use crate::station::Station;
 use mr_flow::{Load, read_net_load};
 use mr_link::NicSettings;
 use ss_element::{Acts, Element, Flow, RestoreFault};
@@ -21,7 +22,7 @@ use std::marker::Model;
 /// Contracts see what every endpoint is.
 #[derive(Drop)]
 pub struct TrafficGen {
-    nic: Endpoint,
+    nic: Station,
 }
 
 impl Model for TrafficGen {
@@ -80,7 +81,8 @@ impl TrafficGen {
             seed,
             hot,
         };
-        let nic = Endpoint::new(alloc, set, total, flits, from, next, stats)?;
+        let endpoint = Endpoint::new(alloc, set, total, flits, from, next, stats)?;
+        let nic = Station::new(endpoint);
         Ok(TrafficGen { nic })
     }
 }
@@ -112,7 +114,7 @@ impl Element for TrafficGen {
     }
 
     fn save(&self, out: &mut Writer) -> Result<(), AllocError> {
-        self.nic.save(out)
+        self.nic.endpoint().save(out)
     }
 
     fn restore(&mut self, _alloc: Global, bytes: &mut Reader<'_>) -> Result<(), RestoreFault> {
@@ -124,11 +126,11 @@ impl Element for TrafficGen {
     }
 
     fn fits(&self, at: u64) -> bool {
-        self.nic.fits(at)
+        self.nic.endpoint().fits(at)
     }
 
     fn fits_load(&self, cause: &Cause<Load>, at: u64) -> bool {
-        self.nic.fits_load(cause, at)
+        self.nic.endpoint().fits_load(cause, at)
     }
 
     fn is_primary(&self) -> bool {
@@ -136,23 +138,23 @@ impl Element for TrafficGen {
     }
 
     fn is_done(&self) -> bool {
-        self.nic.is_done()
+        self.nic.endpoint().is_done()
     }
 
     fn clock_on(&self, clock: u16) -> bool {
-        self.nic.clock_on(clock)
+        self.nic.endpoint().clock_on(clock)
     }
 
     fn channels(&self, port: u16) -> u16 {
-        self.nic.channels(port)
+        self.nic.endpoint().channels(port)
     }
 
     fn flow(&self, port: u16, channel: u8) -> Flow {
-        self.nic.flow(port, channel)
+        self.nic.endpoint().flow(port, channel)
     }
 
     fn stats(&self) -> &StatSet {
-        self.nic.stats()
+        self.nic.endpoint().stats()
     }
 }
 
