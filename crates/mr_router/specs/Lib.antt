@@ -1,5 +1,6 @@
 pub mod Network
 pub mod Turns
+pub mod Ways
 pub mod Router
 pub mod Holding
 pub mod Fitting

@@ -12,6 +12,7 @@ mod router;
 mod settings;
 mod state;
 mod topology;
+mod ways;
 
 pub use laws::{
     a_router_acts_within_bounds, a_router_keeps_fitting, a_router_keeps_its_clock,
@@ -25,6 +26,7 @@ pub use port::Port;
 pub use router::Router;
 pub use settings::RouterSettings;
 pub use topology::Topology;
+pub use ways::Way;
 
 #[cfg(test)]
 mod tests;

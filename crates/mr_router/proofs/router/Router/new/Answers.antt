@@ -6,4 +6,4 @@ pub invariant_of-result : goal.invariant_of-result
 invariant_of-result c =
     let long = ap length c.in_ok-ports.ensures ∙ length-fresh c.args.set 0 c.args.rooms.now in
     let few = c.requires.placed.few in
-    record { id = c.requires.placed.id; count = long ∙ c.requires.ports; few = omega (arith, few, long) }
+    (record { id = c.requires.placed.id; count = long ∙ c.requires.ports; few = omega (arith, few, long) }, c.in_ok-ways.ensures)
