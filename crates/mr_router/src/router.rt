@@ -3,8 +3,8 @@
 ghost use Rattle.std.specs.Prelude.{◌≡◌, ◌<◌, ◌≤◌, ◌*◌, ◌+◌, ◌^◌, ◌++◌, length, true, OnOk, IfOk, IfSome};
 ghost use Rattle.std.specs.Option.{ForSome};
 ghost use Rattle.mr_flow.specs.Side.{HasRoom};
-ghost use Rattle.mr_arb.specs.Arbitrating.{EachFits};
-ghost use Rattle.mr_router.specs.Router.{Switch, port_at, width, heard, ticked, router_handled};
+ghost use Rattle.mr_arb.specs.Arbitrating.{EachFits, picks};
+ghost use Rattle.mr_router.specs.Router.{Switch, port_at, width, all_asks, all_crossed, heard, ticked, router_handled};
 ghost use Rattle.mr_router.specs.Network.{routes};
 ghost use Rattle.mr_router.specs.Fresh.{fresh_port, fresh_ports, fresh_router};
 ghost use Rattle.mr_router.specs.Holding.{AllBound, AllWithin, IsPlaced, IsReady, HearsWell, switch};
@@ -48,6 +48,36 @@ impl Model for Router {
     ghost invariant = { λ r. IsOfTopology r.set (length r.ports.items) };
 }
 
+// Lets each output take a packet at most from the crossbar. Where nothing asks, no arbiter is asked, and nothing crosses.
+fn switch_all(
+    set: &RouterSettings,
+    ports: &mut [Port],
+    outputs: &mut Outputs,
+    requests: &mut Vec<Request>,
+    now: u64,
+    acts: &mut Acts<Load>,
+) -> Result<(), AllocError>
+    requires early { now < 2 ^ 62 }
+    requires placed { IsPlaced set.now (length ports.old) }
+    requires bound { AllBound set.now ports.old }
+    requires within { AllWithin set.now ports.old }
+    requires slots { outputs.old.slots ≡ length ports.old * width set.now }
+    requires turns { EachFits outputs.old.slots outputs.old.turns }
+    ensures asked { OnOk result (requests.new.items ≡ all_asks set.now ports.old now) }
+    ensures ports { let picked = picks outputs.old.slots 0 outputs.old.turns (all_asks set.now ports.old now) in OnOk result (ports.new ≡ (all_crossed set.now now ports.old picked.1).0) }
+    ensures slots { OnOk result (outputs.new.slots ≡ outputs.old.slots) }
+    ensures turns { let picked = picks outputs.old.slots 0 outputs.old.turns (all_asks set.now ports.old now) in OnOk result (outputs.new.turns ≡ picked.0) }
+    ensures actions { let picked = picks outputs.old.slots 0 outputs.old.turns (all_asks set.now ports.old now) in OnOk result (acts.new ≡ acts.old ++ (all_crossed set.now now ports.old picked.1).1) }
+{
+    requests.clear();
+    ask_all(set, ports, now, requests)?;
+    if requests.is_empty() {
+        return Ok(());
+    }
+    outputs.pick(requests);
+    cross_all(set, ports, outputs.grants(), now, acts)
+}
+
 // Pumps each port, lets the crossbar move packets, and turns the clock off where all queues are empty.
 fn tick_all(
     set: &RouterSettings,
@@ -73,10 +103,7 @@ fn tick_all(
     ensures actions { OnOk result (acts.new ≡ acts.old ++ (ticked (switch set.now ports.old outputs.old stats.old place) now).actions) }
 {
     pump_all(ports, stats, place, now, acts)?;
-    requests.clear();
-    ask_all(set, ports, now, requests)?;
-    outputs.pick(requests);
-    cross_all(set, ports, outputs.grants(), now, acts)?;
+    switch_all(set, ports, outputs, requests, now, acts)?;
     if is_idle(ports) {
         acts.push(Action::ClockOff { clock: 0 })?;
     }
