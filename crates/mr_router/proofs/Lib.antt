@@ -2,3 +2,4 @@ pub mod Idle
 pub mod Listing
 pub mod Ports
 pub mod Quiet
+pub mod Resting

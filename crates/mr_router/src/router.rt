@@ -1,10 +1,10 @@
 //! The router.
 
-ghost use Rattle.std.specs.Prelude.{◌≡◌, ◌<◌, ◌≤◌, ◌*◌, ◌+◌, ◌^◌, ◌++◌, length, true, OnOk, IfOk, IfSome};
+ghost use Rattle.std.specs.Prelude.{◌≡◌, ◌<◌, ◌≤◌, ◌*◌, ◌+◌, ◌^◌, ◌++◌, length, map, true, OnOk, IfOk, IfSome};
 ghost use Rattle.std.specs.Option.{ForSome};
 ghost use Rattle.mr_flow.specs.Side.{HasRoom};
 ghost use Rattle.mr_arb.specs.Arbitrating.{EachFits, picks};
-ghost use Rattle.mr_router.specs.Router.{Switch, port_at, width, all_asks, all_crossed, heard, ticked, router_handled};
+ghost use Rattle.mr_router.specs.Router.{Switch, port_at, width, port_pumped, all_asks, all_crossed, heard, ticked, router_handled};
 ghost use Rattle.mr_router.specs.Network.{routes};
 ghost use Rattle.mr_router.specs.Fresh.{fresh_port, fresh_ports, fresh_router};
 ghost use Rattle.mr_router.specs.Holding.{AllBound, AllWithin, IsPlaced, IsReady, HearsWell, switch};
@@ -14,6 +14,7 @@ use crate::outputs::Outputs;
 use crate::port::Port;
 use crate::pumping::{is_idle, pump_all};
 use crate::settings::RouterSettings;
+use crate::waiting::next_free;
 use mr_arb::Request;
 use mr_flow::{Load, NetLoad};
 use mr_port::PortControl;
@@ -34,18 +35,22 @@ pub struct Router {
     sent: Option<usize>,
     // What asks for outputs in a tick.
     requests: Vec<Request>,
+    // From when on and before when a tick changes nothing.
+    quiet_from: u64,
+    pub(crate) quiet_until: u64,
 }
 
 impl Model for Router {
     ghost use Rattle.std.specs.Prelude.{length};
     ghost use Rattle.mr_router.specs.Router.{Switch};
-    ghost use Rattle.mr_router.specs.Holding.{IsOfTopology};
+    ghost use Rattle.mr_router.specs.Holding.{IsOfTopology, switch};
+    ghost use Rattle.mr_router.specs.Quiet.{IsQuiet};
 
     ghost Value = { Switch };
 
     ghost view = { λ r. record { set = r.set; ports = r.ports.items; slots = r.outputs.slots; turns = r.outputs.turns; stats = r.stats; sent = r.sent } };
 
-    ghost invariant = { λ r. IsOfTopology r.set (length r.ports.items) };
+    ghost invariant = { λ r. IsOfTopology r.set (length r.ports.items) × IsQuiet (switch r.set r.ports.items r.outputs r.stats r.sent) r.quiet_from r.quiet_until };
 }
 
 // Lets each output take a packet at most from the crossbar. Where nothing asks, no arbiter is asked, and nothing crosses.
@@ -96,6 +101,7 @@ fn tick_all(
     requires place { IfSome place (λ i. i < length stats.old) }
     requires slots { outputs.old.slots ≡ length ports.old * width set.now }
     requires turns { EachFits outputs.old.slots outputs.old.turns }
+    ensures asked { OnOk result (requests.new.items ≡ all_asks set.now (map (port_pumped now) ports.old) now) }
     ensures ports { OnOk result (ports.new ≡ (ticked (switch set.now ports.old outputs.old stats.old place) now).state.ports) }
     ensures slots { OnOk result (outputs.new.slots ≡ outputs.old.slots) }
     ensures turns { OnOk result (outputs.new.turns ≡ (ticked (switch set.now ports.old outputs.old stats.old place) now).state.turns) }
@@ -188,10 +194,13 @@ impl Router {
             stats,
             sent,
             requests,
+            quiet_from: 0,
+            quiet_until: 0,
         })
     }
 
-    // Takes in what comes to a port.
+    // Takes in what comes to a port, after which a tick may change something.
+    #[tactic(auto, using(crate::proofs::Resting::never_quiet))]
     fn hear(&mut self, port: u16, load: NetLoad, acts: &mut Acts<Load>) -> Result<(), AllocError>
         requires here { port < length self.old.ports }
         requires room { HasRoom (port_at self.old.ports port).line load }
@@ -205,17 +214,25 @@ impl Router {
         if wakes {
             acts.push(Action::ClockOn { clock: 0 })?;
         }
+        self.quiet_until = 0;
         self.ports[usize::from(port)].line.arrive(load)?;
         Ok(())
     }
 
-    // A tick: pump, crossbar, and the clock off where all queues are empty.
+    // A tick: pump, crossbar, and the clock off where all queues are empty. One that is known to change nothing is passed by: where a
+    // tick did nothing, none does anything until something of a port gets free.
+    #[tactic(auto, using(crate::proofs::Resting::never_quiet))]
     fn tick(&mut self, now: u64, acts: &mut Acts<Load>) -> Result<(), AllocError>
         requires early { now < 2 ^ 62 }
         requires ready { IsReady self.old }
         ensures state { OnOk result (self.new ≡ (ticked self.old now).state) }
         ensures actions { OnOk result (acts.new ≡ acts.old ++ (ticked self.old now).actions) }
     {
+        if self.quiet_from <= now && now < self.quiet_until {
+            return Ok(());
+        }
+        self.quiet_until = 0;
+        let before = acts.len();
         tick_all(
             &self.set,
             &mut self.ports,
@@ -225,7 +242,12 @@ impl Router {
             self.sent,
             now,
             acts,
-        )
+        )?;
+        if acts.len() == before && self.requests.is_empty() {
+            self.quiet_from = now;
+            self.quiet_until = next_free(&self.ports, now);
+        }
+        Ok(())
     }
 
     /// Handles a cause.
