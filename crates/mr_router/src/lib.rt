@@ -12,6 +12,7 @@ mod router;
 mod settings;
 mod state;
 mod topology;
+mod ways;
 
 pub use laws::{
     a_router_acts_within_bounds, a_router_keeps_fitting, a_router_keeps_its_clock,

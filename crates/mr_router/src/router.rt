@@ -8,12 +8,14 @@ ghost use Rattle.mr_router.specs.Router.{Switch, port_at, width, heard, ticked, 
 ghost use Rattle.mr_router.specs.Network.{routes};
 ghost use Rattle.mr_router.specs.Fresh.{fresh_port, fresh_ports, fresh_router};
 ghost use Rattle.mr_router.specs.Holding.{AllBound, AllWithin, IsPlaced, IsReady, HearsWell, switch};
+ghost use Rattle.mr_router.specs.Ways.{AreWays};
 
 use crate::crossbar::{ask_all, cross_all};
 use crate::outputs::Outputs;
 use crate::port::Port;
 use crate::pumping::{is_idle, pump_all};
 use crate::settings::RouterSettings;
+use crate::ways::{Way, no_ways};
 use mr_arb::Request;
 use mr_flow::{Load, NetLoad};
 use mr_port::PortControl;
@@ -34,18 +36,21 @@ pub struct Router {
     sent: Option<usize>,
     // What asks for outputs in a tick.
     requests: Vec<Request>,
+    // By slot, the way of the packet that was last looked up there.
+    ways: Vec<Option<Way>>,
 }
 
 impl Model for Router {
     ghost use Rattle.std.specs.Prelude.{length};
     ghost use Rattle.mr_router.specs.Router.{Switch};
     ghost use Rattle.mr_router.specs.Holding.{IsOfTopology};
+    ghost use Rattle.mr_router.specs.Ways.{AreWays};
 
     ghost Value = { Switch };
 
     ghost view = { λ r. record { set = r.set; ports = r.ports.items; slots = r.outputs.slots; turns = r.outputs.turns; stats = r.stats; sent = r.sent } };
 
-    ghost invariant = { λ r. IsOfTopology r.set (length r.ports.items) };
+    ghost invariant = { λ r. IsOfTopology r.set (length r.ports.items) × AreWays r.set r.ways.items };
 }
 
 // Pumps each port, lets the crossbar move packets, and turns the clock off where all queues are empty.
@@ -54,6 +59,7 @@ fn tick_all(
     ports: &mut [Port],
     outputs: &mut Outputs,
     requests: &mut Vec<Request>,
+    ways: &mut [Option<Way>],
     stats: &mut StatSet,
     place: Option<usize>,
     now: u64,
@@ -66,17 +72,19 @@ fn tick_all(
     requires place { IfSome place (λ i. i < length stats.old) }
     requires slots { outputs.old.slots ≡ length ports.old * width set.now }
     requires turns { EachFits outputs.old.slots outputs.old.turns }
+    requires ways { AreWays set.now ways.old }
     ensures ports { OnOk result (ports.new ≡ (ticked (switch set.now ports.old outputs.old stats.old place) now).state.ports) }
     ensures slots { OnOk result (outputs.new.slots ≡ outputs.old.slots) }
     ensures turns { OnOk result (outputs.new.turns ≡ (ticked (switch set.now ports.old outputs.old stats.old place) now).state.turns) }
     ensures stats { OnOk result (stats.new ≡ (ticked (switch set.now ports.old outputs.old stats.old place) now).state.stats) }
     ensures actions { OnOk result (acts.new ≡ acts.old ++ (ticked (switch set.now ports.old outputs.old stats.old place) now).actions) }
+    ensures ways { AreWays set.now ways.new }
 {
     pump_all(ports, stats, place, now, acts)?;
     requests.clear();
-    ask_all(set, ports, now, requests)?;
+    ask_all(set, ports, now, ways, requests)?;
     outputs.pick(requests);
-    cross_all(set, ports, outputs.grants(), now, acts)?;
+    cross_all(set, ports, outputs.grants(), now, ways, acts)?;
     if is_idle(ports) {
         acts.push(Action::ClockOff { clock: 0 })?;
     }
@@ -154,6 +162,7 @@ impl Router {
         let ports = fresh_ports(alloc, &set, rooms)?;
         let sent = stats.find(b"sent");
         let requests = Vec::with_capacity(alloc, slots as usize)?;
+        let ways = no_ways(alloc, slots)?;
         Ok(Router {
             set,
             ports,
@@ -161,6 +170,7 @@ impl Router {
             stats,
             sent,
             requests,
+            ways,
         })
     }
 
@@ -194,6 +204,7 @@ impl Router {
             &mut self.ports,
             &mut self.outputs,
             &mut self.requests,
+            &mut self.ways,
             &mut self.stats,
             self.sent,
             now,
