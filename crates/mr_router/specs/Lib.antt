@@ -2,6 +2,7 @@ pub mod Network
 pub mod Turns
 pub mod Router
 pub mod Holding
+pub mod Ways
 pub mod Quiet
 pub mod Fitting
 pub mod Fresh

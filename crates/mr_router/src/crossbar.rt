@@ -5,9 +5,11 @@ ghost use Rattle.mr_flow.specs.Queue.{room, head};
 ghost use Rattle.mr_flow.specs.Side.{channels, input, output};
 ghost use Rattle.mr_router.specs.Router.{port_at, width, way, crossing, asks_by, asks_of, port_asks, all_asks, given, received, changed, moved, crossed, all_crossed};
 ghost use Rattle.mr_router.specs.Holding.{IsBound, AllBound, AllWithin, IsPlaced};
+ghost use Rattle.mr_router.specs.Ways.{AreWays};
 
 use crate::port::Port;
 use crate::settings::RouterSettings;
+use crate::ways::{Way, way_of};
 use mr_arb::Request;
 use mr_flow::{Load, NetLoad, Packet};
 use ss_element::{Action, Acts};
@@ -65,20 +67,24 @@ fn ask(
     input: u16,
     channel: u8,
     packet: Packet,
+    ways: &mut [Option<Way>],
     requests: &mut Vec<Request>,
 ) -> Result<(), AllocError>
     requires placed { IsPlaced set.now (length ports.now) }
     requires here { input < 256 }
     requires bound { IsBound set.now packet }
-    ensures { OnOk result (requests.new.items ≡ requests.old.items ++ asks_by set.now ports.now now input channel packet) }
+    requires ways { AreWays set.now ways.old }
+    ensures asks { OnOk result (requests.new.items ≡ requests.old.items ++ asks_by set.now ports.now now input channel packet) }
+    ensures ways { AreWays set.now ways.new }
 {
-    let (output, out_channel) = set.topology.route(set.id, &packet);
+    let slot = u32::from(input) * set.width() + u32::from(channel);
+    let (output, out_channel) = way_of(set, ways, slot, &packet);
     let Some(port) = ports.get(usize::from(output)) else {
         return Ok(());
     };
     if port.cross_free <= now && packet.flits <= room_at(ports, output, out_channel) {
         requests.push(Request {
-            slot: u32::from(input) * set.width() + u32::from(channel),
+            slot,
             input,
             output,
             born: packet.born,
@@ -94,16 +100,19 @@ fn ask_front(
     now: u64,
     port: u16,
     channel: u8,
+    ways: &mut [Option<Way>],
     requests: &mut Vec<Request>,
 ) -> Result<(), AllocError>
     requires placed { IsPlaced set.now (length ports.now) }
     requires here { port < length ports.now }
     requires channel { channel < channels (port_at ports.now port).line }
     requires bound { AllBound set.now ports.now }
-    ensures { OnOk result (requests.new.items ≡ requests.old.items ++ asks_of set.now ports.now now port channel (head (input (port_at ports.now port).line channel))) }
+    requires ways { AreWays set.now ways.old }
+    ensures asks { OnOk result (requests.new.items ≡ requests.old.items ++ asks_of set.now ports.now now port channel (head (input (port_at ports.now port).line channel))) }
+    ensures ways { AreWays set.now ways.new }
 {
     match ports[usize::from(port)].line.head(channel) {
-        Some(packet) => ask(set, ports, now, port, channel, packet, requests),
+        Some(packet) => ask(set, ports, now, port, channel, packet, ways, requests),
         None => Ok(()),
     }
 }
@@ -115,12 +124,15 @@ fn ask_port(
     ports: &[Port],
     now: u64,
     input: u16,
+    ways: &mut [Option<Way>],
     requests: &mut Vec<Request>,
 ) -> Result<(), AllocError>
     requires placed { IsPlaced set.now (length ports.now) }
     requires here { input < length ports.now }
     requires bound { AllBound set.now ports.now }
-    ensures { OnOk result (requests.new.items ≡ requests.old.items ++ port_asks set.now ports.now now input) }
+    requires ways { AreWays set.now ways.old }
+    ensures asks { OnOk result (requests.new.items ≡ requests.old.items ++ port_asks set.now ports.now now input) }
+    ensures ways { AreWays set.now ways.new }
 {
     let port = &ports[usize::from(input)];
     if now < port.in_free {
@@ -130,7 +142,7 @@ fn ask_port(
         return Ok(());
     }
     for channel in 0..port.line.channels() {
-        ask_front(set, ports, now, input, channel as u8, requests)?;
+        ask_front(set, ports, now, input, channel as u8, ways, requests)?;
     }
     Ok(())
 }
@@ -140,14 +152,17 @@ pub(crate) fn ask_all(
     set: &RouterSettings,
     ports: &[Port],
     now: u64,
+    ways: &mut [Option<Way>],
     requests: &mut Vec<Request>,
 ) -> Result<(), AllocError>
     requires placed { IsPlaced set.now (length ports.now) }
     requires bound { AllBound set.now ports.now }
-    ensures { OnOk result (requests.new.items ≡ requests.old.items ++ all_asks set.now ports.now now) }
+    requires ways { AreWays set.now ways.old }
+    ensures asks { OnOk result (requests.new.items ≡ requests.old.items ++ all_asks set.now ports.now now) }
+    ensures ways { AreWays set.now ways.new }
 {
     for input in 0..ports.len() {
-        ask_port(set, ports, now, input as u16, requests)?;
+        ask_port(set, ports, now, input as u16, ways, requests)?;
     }
     Ok(())
 }
@@ -210,13 +225,16 @@ fn cross(
     ports: &mut [Port],
     slot: u32,
     now: u64,
+    ways: &mut [Option<Way>],
     acts: &mut Acts<Load>,
 ) -> Result<(), AllocError>
     requires placed { IsPlaced set.now (length ports.old) }
     requires bound { AllBound set.now ports.old }
     requires early { now < 2 ^ 62 }
+    requires ways { AreWays set.now ways.old }
     ensures ports { OnOk result (ports.new ≡ (crossed set.now now ports.old slot).0) }
     ensures actions { OnOk result (acts.new ≡ acts.old ++ (crossed set.now now ports.old slot).1) }
+    ensures ways { AreWays set.now ways.new }
 {
     let width = set.width();
     let port = slot / width;
@@ -224,7 +242,7 @@ fn cross(
     let Some(packet) = head_at(ports, port, channel) else {
         return Ok(());
     };
-    let to = set.topology.route(set.id, &packet);
+    let to = way_of(set, ways, slot, &packet);
     if room_at(ports, to.0, to.1) < packet.flits {
         return Ok(());
     }
@@ -245,16 +263,19 @@ pub(crate) fn cross_all(
     ports: &mut [Port],
     grants: &[u32],
     now: u64,
+    ways: &mut [Option<Way>],
     acts: &mut Acts<Load>,
 ) -> Result<(), AllocError>
     requires placed { IsPlaced set.now (length ports.old) }
     requires bound { AllBound set.now ports.old }
     requires early { now < 2 ^ 62 }
+    requires ways { AreWays set.now ways.old }
     ensures ports { OnOk result (ports.new ≡ (all_crossed set.now now ports.old grants.now).0) }
     ensures actions { OnOk result (acts.new ≡ acts.old ++ (all_crossed set.now now ports.old grants.now).1) }
+    ensures ways { AreWays set.now ways.new }
 {
     for slot in grants {
-        cross(set, ports, *slot, now, acts)?;
+        cross(set, ports, *slot, now, ways, acts)?;
     }
     Ok(())
 }

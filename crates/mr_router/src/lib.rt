@@ -13,6 +13,7 @@ mod settings;
 mod state;
 mod topology;
 mod waiting;
+mod ways;
 
 pub use laws::{
     a_router_acts_within_bounds, a_router_keeps_fitting, a_router_keeps_its_clock,

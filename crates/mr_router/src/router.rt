@@ -8,6 +8,7 @@ ghost use Rattle.mr_router.specs.Router.{Switch, port_at, width, port_pumped, al
 ghost use Rattle.mr_router.specs.Network.{routes};
 ghost use Rattle.mr_router.specs.Fresh.{fresh_port, fresh_ports, fresh_router};
 ghost use Rattle.mr_router.specs.Holding.{AllBound, AllWithin, IsPlaced, IsReady, HearsWell, switch};
+ghost use Rattle.mr_router.specs.Ways.{AreWays};
 
 use crate::crossbar::{ask_all, cross_all};
 use crate::outputs::Outputs;
@@ -15,6 +16,7 @@ use crate::port::Port;
 use crate::pumping::{is_idle, pump_all};
 use crate::settings::RouterSettings;
 use crate::waiting::next_free;
+use crate::ways::{Way, no_ways};
 use mr_arb::Request;
 use mr_flow::{Load, NetLoad};
 use mr_port::PortControl;
@@ -35,6 +37,8 @@ pub struct Router {
     sent: Option<usize>,
     // What asks for outputs in a tick.
     requests: Vec<Request>,
+    // By slot, the way of the packet that was last looked up there.
+    ways: Vec<Option<Way>>,
     // From when on and before when a tick changes nothing.
     quiet_from: u64,
     pub(crate) quiet_until: u64,
@@ -44,13 +48,14 @@ impl Model for Router {
     ghost use Rattle.std.specs.Prelude.{length};
     ghost use Rattle.mr_router.specs.Router.{Switch};
     ghost use Rattle.mr_router.specs.Holding.{IsOfTopology, switch};
+    ghost use Rattle.mr_router.specs.Ways.{AreWays};
     ghost use Rattle.mr_router.specs.Quiet.{IsQuiet};
 
     ghost Value = { Switch };
 
     ghost view = { λ r. record { set = r.set; ports = r.ports.items; slots = r.outputs.slots; turns = r.outputs.turns; stats = r.stats; sent = r.sent } };
 
-    ghost invariant = { λ r. IsOfTopology r.set (length r.ports.items) × IsQuiet (switch r.set r.ports.items r.outputs r.stats r.sent) r.quiet_from r.quiet_until };
+    ghost invariant = { λ r. IsOfTopology r.set (length r.ports.items) × AreWays r.set r.ways.items × IsQuiet (switch r.set r.ports.items r.outputs r.stats r.sent) r.quiet_from r.quiet_until };
 }
 
 // Lets each output take a packet at most from the crossbar. Where nothing asks, no arbiter is asked, and nothing crosses.
@@ -59,6 +64,7 @@ fn switch_all(
     ports: &mut [Port],
     outputs: &mut Outputs,
     requests: &mut Vec<Request>,
+    ways: &mut [Option<Way>],
     now: u64,
     acts: &mut Acts<Load>,
 ) -> Result<(), AllocError>
@@ -68,19 +74,21 @@ fn switch_all(
     requires within { AllWithin set.now ports.old }
     requires slots { outputs.old.slots ≡ length ports.old * width set.now }
     requires turns { EachFits outputs.old.slots outputs.old.turns }
+    requires ways { AreWays set.now ways.old }
     ensures asked { OnOk result (requests.new.items ≡ all_asks set.now ports.old now) }
     ensures ports { let picked = picks outputs.old.slots 0 outputs.old.turns (all_asks set.now ports.old now) in OnOk result (ports.new ≡ (all_crossed set.now now ports.old picked.1).0) }
     ensures slots { OnOk result (outputs.new.slots ≡ outputs.old.slots) }
     ensures turns { let picked = picks outputs.old.slots 0 outputs.old.turns (all_asks set.now ports.old now) in OnOk result (outputs.new.turns ≡ picked.0) }
     ensures actions { let picked = picks outputs.old.slots 0 outputs.old.turns (all_asks set.now ports.old now) in OnOk result (acts.new ≡ acts.old ++ (all_crossed set.now now ports.old picked.1).1) }
+    ensures ways { AreWays set.now ways.new }
 {
     requests.clear();
-    ask_all(set, ports, now, requests)?;
+    ask_all(set, ports, now, ways, requests)?;
     if requests.is_empty() {
         return Ok(());
     }
     outputs.pick(requests);
-    cross_all(set, ports, outputs.grants(), now, acts)
+    cross_all(set, ports, outputs.grants(), now, ways, acts)
 }
 
 // Pumps each port, lets the crossbar move packets, and turns the clock off where all queues are empty.
@@ -89,6 +97,7 @@ fn tick_all(
     ports: &mut [Port],
     outputs: &mut Outputs,
     requests: &mut Vec<Request>,
+    ways: &mut [Option<Way>],
     stats: &mut StatSet,
     place: Option<usize>,
     now: u64,
@@ -101,15 +110,17 @@ fn tick_all(
     requires place { IfSome place (λ i. i < length stats.old) }
     requires slots { outputs.old.slots ≡ length ports.old * width set.now }
     requires turns { EachFits outputs.old.slots outputs.old.turns }
+    requires ways { AreWays set.now ways.old }
     ensures asked { OnOk result (requests.new.items ≡ all_asks set.now (map (port_pumped now) ports.old) now) }
     ensures ports { OnOk result (ports.new ≡ (ticked (switch set.now ports.old outputs.old stats.old place) now).state.ports) }
     ensures slots { OnOk result (outputs.new.slots ≡ outputs.old.slots) }
     ensures turns { OnOk result (outputs.new.turns ≡ (ticked (switch set.now ports.old outputs.old stats.old place) now).state.turns) }
     ensures stats { OnOk result (stats.new ≡ (ticked (switch set.now ports.old outputs.old stats.old place) now).state.stats) }
     ensures actions { OnOk result (acts.new ≡ acts.old ++ (ticked (switch set.now ports.old outputs.old stats.old place) now).actions) }
+    ensures ways { AreWays set.now ways.new }
 {
     pump_all(ports, stats, place, now, acts)?;
-    switch_all(set, ports, outputs, requests, now, acts)?;
+    switch_all(set, ports, outputs, requests, ways, now, acts)?;
     if is_idle(ports) {
         acts.push(Action::ClockOff { clock: 0 })?;
     }
@@ -187,6 +198,7 @@ impl Router {
         let ports = fresh_ports(alloc, &set, rooms)?;
         let sent = stats.find(b"sent");
         let requests = Vec::with_capacity(alloc, slots as usize)?;
+        let ways = no_ways(alloc, slots)?;
         Ok(Router {
             set,
             ports,
@@ -194,6 +206,7 @@ impl Router {
             stats,
             sent,
             requests,
+            ways,
             quiet_from: 0,
             quiet_until: 0,
         })
@@ -238,6 +251,7 @@ impl Router {
             &mut self.ports,
             &mut self.outputs,
             &mut self.requests,
+            &mut self.ways,
             &mut self.stats,
             self.sent,
             now,

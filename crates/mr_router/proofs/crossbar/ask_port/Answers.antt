@@ -15,10 +15,13 @@ pub loop-channel-preserved : goal.loop-channel-preserved
 loop-channel-preserved c =
     let s = c.args.set.now in
     let ps = c.args.ports.now in
-    grown (λ k. asks_of s ps c.args.now c.args.input k (head (input (port_at ps c.args.input).line k))) c.loop-channel.channel c.args.requests.now.items c.loop-channel.requests.items c.ask_front.new.requests.items c.loop-channel.invariant c.in_ok-ask_front.ensures
+    record {
+      ways = c.in_ok-ask_front.ensures.ways;
+      requests = grown (λ k. asks_of s ps c.args.now c.args.input k (head (input (port_at ps c.args.input).line k))) c.loop-channel.channel c.args.requests.now.items c.loop-channel.requests.items c.ask_front.new.requests.items c.loop-channel.invariant.requests c.in_ok-ask_front.ensures.asks;
+    }
 
-pub returns-then-held-eq0 : goal.returns-then-held-eq0
-returns-then-held-eq0 c =
+pub returns-then-held-eq0-clause-asks : goal.returns-then-held-eq0-clause-asks
+returns-then-held-eq0-clause-asks c =
     let ps = c.args.ports.now in
     let p = c.index-ports-from.result in
     let same : p ≡ port_at ps c.args.input = c.index-ports-from.is ∙ (ap (λ i. get_or ps i p) c.from.ensures ∙ there_is ps c.args.input p c.requires.here) in
