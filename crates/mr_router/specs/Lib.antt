@@ -1,8 +1,9 @@
 pub mod Network
 pub mod Turns
-pub mod Ways
 pub mod Router
 pub mod Holding
+pub mod Ways
+pub mod Quiet
 pub mod Fitting
 pub mod Fresh
 pub mod Balance

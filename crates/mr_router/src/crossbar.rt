@@ -108,8 +108,8 @@ fn ask_front(
     requires channel { channel < channels (port_at ports.now port).line }
     requires bound { AllBound set.now ports.now }
     requires ways { AreWays set.now ways.old }
-    ensures ways { AreWays set.now ways.new }
     ensures asks { OnOk result (requests.new.items ≡ requests.old.items ++ asks_of set.now ports.now now port channel (head (input (port_at ports.now port).line channel))) }
+    ensures ways { AreWays set.now ways.new }
 {
     match ports[usize::from(port)].line.head(channel) {
         Some(packet) => ask(set, ports, now, port, channel, packet, ways, requests),
@@ -131,8 +131,8 @@ fn ask_port(
     requires here { input < length ports.now }
     requires bound { AllBound set.now ports.now }
     requires ways { AreWays set.now ways.old }
-    ensures ways { AreWays set.now ways.new }
     ensures asks { OnOk result (requests.new.items ≡ requests.old.items ++ port_asks set.now ports.now now input) }
+    ensures ways { AreWays set.now ways.new }
 {
     let port = &ports[usize::from(input)];
     if now < port.in_free {
@@ -158,8 +158,8 @@ pub(crate) fn ask_all(
     requires placed { IsPlaced set.now (length ports.now) }
     requires bound { AllBound set.now ports.now }
     requires ways { AreWays set.now ways.old }
-    ensures ways { AreWays set.now ways.new }
     ensures asks { OnOk result (requests.new.items ≡ requests.old.items ++ all_asks set.now ports.now now) }
+    ensures ways { AreWays set.now ways.new }
 {
     for input in 0..ports.len() {
         ask_port(set, ports, now, input as u16, ways, requests)?;
@@ -225,13 +225,16 @@ fn cross(
     ports: &mut [Port],
     slot: u32,
     now: u64,
+    ways: &mut [Option<Way>],
     acts: &mut Acts<Load>,
 ) -> Result<(), AllocError>
     requires placed { IsPlaced set.now (length ports.old) }
     requires bound { AllBound set.now ports.old }
     requires early { now < 2 ^ 62 }
+    requires ways { AreWays set.now ways.old }
     ensures ports { OnOk result (ports.new ≡ (crossed set.now now ports.old slot).0) }
     ensures actions { OnOk result (acts.new ≡ acts.old ++ (crossed set.now now ports.old slot).1) }
+    ensures ways { AreWays set.now ways.new }
 {
     let width = set.width();
     let port = slot / width;
@@ -239,7 +242,7 @@ fn cross(
     let Some(packet) = head_at(ports, port, channel) else {
         return Ok(());
     };
-    let to = set.topology.route(set.id, &packet);
+    let to = way_of(set, ways, slot, &packet);
     if room_at(ports, to.0, to.1) < packet.flits {
         return Ok(());
     }
@@ -260,16 +263,19 @@ pub(crate) fn cross_all(
     ports: &mut [Port],
     grants: &[u32],
     now: u64,
+    ways: &mut [Option<Way>],
     acts: &mut Acts<Load>,
 ) -> Result<(), AllocError>
     requires placed { IsPlaced set.now (length ports.old) }
     requires bound { AllBound set.now ports.old }
     requires early { now < 2 ^ 62 }
+    requires ways { AreWays set.now ways.old }
     ensures ports { OnOk result (ports.new ≡ (all_crossed set.now now ports.old grants.now).0) }
     ensures actions { OnOk result (acts.new ≡ acts.old ++ (all_crossed set.now now ports.old grants.now).1) }
+    ensures ways { AreWays set.now ways.new }
 {
     for slot in grants {
-        cross(set, ports, *slot, now, acts)?;
+        cross(set, ports, *slot, now, ways, acts)?;
     }
     Ok(())
 }

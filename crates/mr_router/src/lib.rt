@@ -12,6 +12,7 @@ mod router;
 mod settings;
 mod state;
 mod topology;
+mod waiting;
 mod ways;
 
 pub use laws::{
@@ -26,7 +27,6 @@ pub use port::Port;
 pub use router::Router;
 pub use settings::RouterSettings;
 pub use topology::Topology;
-pub use ways::Way;
 
 #[cfg(test)]
 mod tests;

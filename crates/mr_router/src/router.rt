@@ -1,20 +1,21 @@
 //! The router.
 
-ghost use Rattle.std.specs.Prelude.{◌≡◌, ◌<◌, ◌≤◌, ◌*◌, ◌+◌, ◌^◌, ◌++◌, length, true, OnOk, IfOk, IfSome};
+ghost use Rattle.std.specs.Prelude.{◌≡◌, ◌<◌, ◌≤◌, ◌*◌, ◌+◌, ◌^◌, ◌++◌, length, map, true, OnOk, IfOk, IfSome};
 ghost use Rattle.std.specs.Option.{ForSome};
 ghost use Rattle.mr_flow.specs.Side.{HasRoom};
-ghost use Rattle.mr_arb.specs.Arbitrating.{EachFits};
-ghost use Rattle.mr_router.specs.Router.{Switch, port_at, width, heard, ticked, router_handled};
+ghost use Rattle.mr_arb.specs.Arbitrating.{EachFits, picks};
+ghost use Rattle.mr_router.specs.Router.{Switch, port_at, width, port_pumped, all_asks, all_crossed, heard, ticked, router_handled};
 ghost use Rattle.mr_router.specs.Network.{routes};
 ghost use Rattle.mr_router.specs.Fresh.{fresh_port, fresh_ports, fresh_router};
-ghost use Rattle.mr_router.specs.Ways.{AreWays};
 ghost use Rattle.mr_router.specs.Holding.{AllBound, AllWithin, IsPlaced, IsReady, HearsWell, switch};
+ghost use Rattle.mr_router.specs.Ways.{AreWays};
 
 use crate::crossbar::{ask_all, cross_all};
 use crate::outputs::Outputs;
 use crate::port::Port;
 use crate::pumping::{is_idle, pump_all};
 use crate::settings::RouterSettings;
+use crate::waiting::next_free;
 use crate::ways::{Way, no_ways};
 use mr_arb::Request;
 use mr_flow::{Load, NetLoad};
@@ -36,21 +37,58 @@ pub struct Router {
     sent: Option<usize>,
     // What asks for outputs in a tick.
     requests: Vec<Request>,
-    // By slot, the way that was looked up last for a packet that waited there.
+    // By slot, the way of the packet that was last looked up there.
     ways: Vec<Option<Way>>,
+    // From when on and before when a tick changes nothing.
+    quiet_from: u64,
+    pub(crate) quiet_until: u64,
 }
 
 impl Model for Router {
     ghost use Rattle.std.specs.Prelude.{length};
     ghost use Rattle.mr_router.specs.Router.{Switch};
-    ghost use Rattle.mr_router.specs.Holding.{IsOfTopology};
+    ghost use Rattle.mr_router.specs.Holding.{IsOfTopology, switch};
     ghost use Rattle.mr_router.specs.Ways.{AreWays};
+    ghost use Rattle.mr_router.specs.Quiet.{IsQuiet};
 
     ghost Value = { Switch };
 
     ghost view = { λ r. record { set = r.set; ports = r.ports.items; slots = r.outputs.slots; turns = r.outputs.turns; stats = r.stats; sent = r.sent } };
 
-    ghost invariant = { λ r. IsOfTopology r.set (length r.ports.items) × AreWays r.set r.ways.items };
+    ghost invariant = { λ r. IsOfTopology r.set (length r.ports.items) × AreWays r.set r.ways.items × IsQuiet (switch r.set r.ports.items r.outputs r.stats r.sent) r.quiet_from r.quiet_until };
+}
+
+// Lets each output take a packet at most from the crossbar. Where nothing asks, no arbiter is asked, and nothing crosses.
+fn switch_all(
+    set: &RouterSettings,
+    ports: &mut [Port],
+    outputs: &mut Outputs,
+    requests: &mut Vec<Request>,
+    ways: &mut [Option<Way>],
+    now: u64,
+    acts: &mut Acts<Load>,
+) -> Result<(), AllocError>
+    requires early { now < 2 ^ 62 }
+    requires placed { IsPlaced set.now (length ports.old) }
+    requires bound { AllBound set.now ports.old }
+    requires within { AllWithin set.now ports.old }
+    requires slots { outputs.old.slots ≡ length ports.old * width set.now }
+    requires turns { EachFits outputs.old.slots outputs.old.turns }
+    requires ways { AreWays set.now ways.old }
+    ensures asked { OnOk result (requests.new.items ≡ all_asks set.now ports.old now) }
+    ensures ports { let picked = picks outputs.old.slots 0 outputs.old.turns (all_asks set.now ports.old now) in OnOk result (ports.new ≡ (all_crossed set.now now ports.old picked.1).0) }
+    ensures slots { OnOk result (outputs.new.slots ≡ outputs.old.slots) }
+    ensures turns { let picked = picks outputs.old.slots 0 outputs.old.turns (all_asks set.now ports.old now) in OnOk result (outputs.new.turns ≡ picked.0) }
+    ensures actions { let picked = picks outputs.old.slots 0 outputs.old.turns (all_asks set.now ports.old now) in OnOk result (acts.new ≡ acts.old ++ (all_crossed set.now now ports.old picked.1).1) }
+    ensures ways { AreWays set.now ways.new }
+{
+    requests.clear();
+    ask_all(set, ports, now, ways, requests)?;
+    if requests.is_empty() {
+        return Ok(());
+    }
+    outputs.pick(requests);
+    cross_all(set, ports, outputs.grants(), now, ways, acts)
 }
 
 // Pumps each port, lets the crossbar move packets, and turns the clock off where all queues are empty.
@@ -73,18 +111,16 @@ fn tick_all(
     requires slots { outputs.old.slots ≡ length ports.old * width set.now }
     requires turns { EachFits outputs.old.slots outputs.old.turns }
     requires ways { AreWays set.now ways.old }
-    ensures ways { AreWays set.now ways.new }
+    ensures asked { OnOk result (requests.new.items ≡ all_asks set.now (map (port_pumped now) ports.old) now) }
     ensures ports { OnOk result (ports.new ≡ (ticked (switch set.now ports.old outputs.old stats.old place) now).state.ports) }
     ensures slots { OnOk result (outputs.new.slots ≡ outputs.old.slots) }
     ensures turns { OnOk result (outputs.new.turns ≡ (ticked (switch set.now ports.old outputs.old stats.old place) now).state.turns) }
     ensures stats { OnOk result (stats.new ≡ (ticked (switch set.now ports.old outputs.old stats.old place) now).state.stats) }
     ensures actions { OnOk result (acts.new ≡ acts.old ++ (ticked (switch set.now ports.old outputs.old stats.old place) now).actions) }
+    ensures ways { AreWays set.now ways.new }
 {
     pump_all(ports, stats, place, now, acts)?;
-    requests.clear();
-    ask_all(set, ports, now, ways, requests)?;
-    outputs.pick(requests);
-    cross_all(set, ports, outputs.grants(), now, acts)?;
+    switch_all(set, ports, outputs, requests, ways, now, acts)?;
     if is_idle(ports) {
         acts.push(Action::ClockOff { clock: 0 })?;
     }
@@ -162,7 +198,7 @@ impl Router {
         let ports = fresh_ports(alloc, &set, rooms)?;
         let sent = stats.find(b"sent");
         let requests = Vec::with_capacity(alloc, slots as usize)?;
-        let ways = no_ways(alloc, &set, slots as usize)?;
+        let ways = no_ways(alloc, slots)?;
         Ok(Router {
             set,
             ports,
@@ -171,10 +207,13 @@ impl Router {
             sent,
             requests,
             ways,
+            quiet_from: 0,
+            quiet_until: 0,
         })
     }
 
-    // Takes in what comes to a port.
+    // Takes in what comes to a port, after which a tick may change something.
+    #[tactic(auto, using(crate::proofs::Resting::never_quiet))]
     fn hear(&mut self, port: u16, load: NetLoad, acts: &mut Acts<Load>) -> Result<(), AllocError>
         requires here { port < length self.old.ports }
         requires room { HasRoom (port_at self.old.ports port).line load }
@@ -188,17 +227,25 @@ impl Router {
         if wakes {
             acts.push(Action::ClockOn { clock: 0 })?;
         }
+        self.quiet_until = 0;
         self.ports[usize::from(port)].line.arrive(load)?;
         Ok(())
     }
 
-    // A tick: pump, crossbar, and the clock off where all queues are empty.
+    // A tick: pump, crossbar, and the clock off where all queues are empty. One that is known to change nothing is passed by: where a
+    // tick did nothing, none does anything until something of a port gets free.
+    #[tactic(auto, using(crate::proofs::Resting::never_quiet))]
     fn tick(&mut self, now: u64, acts: &mut Acts<Load>) -> Result<(), AllocError>
         requires early { now < 2 ^ 62 }
         requires ready { IsReady self.old }
         ensures state { OnOk result (self.new ≡ (ticked self.old now).state) }
         ensures actions { OnOk result (acts.new ≡ acts.old ++ (ticked self.old now).actions) }
     {
+        if self.quiet_from <= now && now < self.quiet_until {
+            return Ok(());
+        }
+        self.quiet_until = 0;
+        let before = acts.len();
         tick_all(
             &self.set,
             &mut self.ports,
@@ -209,7 +256,12 @@ impl Router {
             self.sent,
             now,
             acts,
-        )
+        )?;
+        if acts.len() == before && self.requests.is_empty() {
+            self.quiet_from = now;
+            self.quiet_until = next_free(&self.ports, now);
+        }
+        Ok(())
     }
 
     /// Handles a cause.

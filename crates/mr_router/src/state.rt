@@ -149,9 +149,11 @@ impl Router {
     }
 
     /// Takes on what was written.
+    #[tactic(auto, using(crate::proofs::Resting::never_quiet))]
     pub(crate) fn restore_state(&mut self, bytes: &mut Reader<'_>) -> Result<(), RestoreFault>
         ensures { Gives (λ u. self.new) result bytes.new ((router_form self.old).read bytes.old) }
     {
+        self.quiet_until = 0;
         restore_ports(&mut self.ports, bytes)?;
         self.outputs.restore(bytes)?;
         restore_stats(&mut self.stats, bytes)

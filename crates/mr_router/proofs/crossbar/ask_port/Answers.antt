@@ -15,7 +15,10 @@ pub loop-channel-preserved : goal.loop-channel-preserved
 loop-channel-preserved c =
     let s = c.args.set.now in
     let ps = c.args.ports.now in
-    (grown (λ k. asks_of s ps c.args.now c.args.input k (head (input (port_at ps c.args.input).line k))) c.loop-channel.channel c.args.requests.now.items c.loop-channel.requests.items c.ask_front.new.requests.items c.loop-channel.invariant.0 c.in_ok-ask_front.ensures.asks, c.in_ok-ask_front.ensures.ways)
+    record {
+      ways = c.in_ok-ask_front.ensures.ways;
+      requests = grown (λ k. asks_of s ps c.args.now c.args.input k (head (input (port_at ps c.args.input).line k))) c.loop-channel.channel c.args.requests.now.items c.loop-channel.requests.items c.ask_front.new.requests.items c.loop-channel.invariant.requests c.in_ok-ask_front.ensures.asks;
+    }
 
 pub returns-then-held-eq0-clause-asks : goal.returns-then-held-eq0-clause-asks
 returns-then-held-eq0-clause-asks c =
@@ -25,9 +28,3 @@ returns-then-held-eq0-clause-asks c =
     let none : waiting_in (port_at ps c.args.input).line.inputs ≡ 0 = ap (λ (q : Port). waiting_in q.line.inputs) (sym same) ∙ (sym c.held.ensures ∙ c.if-held-eq0.true) in
     let nothing = quiet_port c.args.set.now ps c.args.now c.args.input none in
     sym (ap (λ (rs : List Request). c.args.requests.now.items ++ rs) nothing ∙ append-nil c.args.requests.now.items)
-
-pub ask_front-requires-clause-ways : goal.ask_front-requires-clause-ways
-ask_front-requires-clause-ways c = c.loop-channel.invariant.1
-
-pub returns-clause-ways : goal.returns-clause-ways
-returns-clause-ways c = c.loop-channel.invariant.1

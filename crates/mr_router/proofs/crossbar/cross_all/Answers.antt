@@ -18,6 +18,7 @@ loop-slot-preserved c =
     let v = c.loop-slot.invariant in
     record {
       bound = subst (λ (l : _). AllBound s l) (sym e.ports) (crossed_bound s now ports slot v.bound);
+      ways = e.ways;
       ports = next_ports s now ports new grants k slot (all_crossed s now c.args.ports.now grants).0 here (nth_self grants k here) e.ports v.ports;
       acts = next_acts s now ports new grants k slot c.loop-slot.acts c.cross.new.acts _ here (nth_self grants k here) e.ports e.actions v.acts;
     }
