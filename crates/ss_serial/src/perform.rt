@@ -8,7 +8,7 @@ ghost use Rattle.ss_element.specs.Kind.{ActionFits, ActionsFit};
 ghost use Rattle.ss_serial.specs.Serial.{state_of, MayReact, TicksOn, tick};
 
 use ss_element::{Acts, Element, Wires};
-use ss_model::{ARRIVAL, Action, Cause, Event, Key, Line, TICK};
+use ss_model::{ARRIVAL, Action, Cause, Event, Key, Line, START, TICK};
 use ss_pending::Pending;
 use std::alloc::AllocError;
 
@@ -139,6 +139,28 @@ fn react<E: Element>(
     }
 }
 
+// Who is told of an event, and what: as the wires tell it, but the load moves from the event into the cause.
+#[inline(always)]
+fn told<L: Copy>(wires: &Wires, event: Event<L>) -> Option<(u32, Cause<L>)>
+    ensures { result ≡ told wires.now event }
+{
+    let Event { key, load } = event;
+    let (component, index) = wires.target(key)?;
+    let cause = match key.class {
+        START => Cause::Start,
+        TICK => Cause::Tick { clock: index },
+        _ => {
+            let load = load?;
+            if key.line < wires.counts().0 {
+                Cause::Link { port: index, load }
+            } else {
+                Cause::Own { line: index, load }
+            }
+        }
+    };
+    Some((component, cause))
+}
+
 /// What follows an event that was taken.
 pub fn perform<E: Element>(
     wires: &Wires,
@@ -154,7 +176,8 @@ pub fn perform<E: Element>(
     ensures state { OnOk result (state_of elements.new.items pending.new event.key.time ≡ step_told E.kind.handled wires.now elements.old.items pending.old event.key.time (told wires.now event)) }
     ensures lines { OnOk result (lines.new.items ≡ lines.old.items ++ lines_told E.kind.handled elements.old.items event.key (told wires.now event)) }
 {
-    let Some((component, cause)) = wires.told(&event) else {
+    let key = event.key;
+    let Some((component, cause)) = told(wires, event) else {
         return Ok(());
     };
     let place = component as usize;
@@ -162,8 +185,6 @@ pub fn perform<E: Element>(
         return Ok(());
     }
     let element = &mut elements[place];
-    react(
-        wires, component, element, event.key, &cause, pending, lines, acts,
-    )?;
+    react(wires, component, element, key, &cause, pending, lines, acts)?;
     Ok(())
 }
