@@ -1,5 +1,5 @@
 -- The numbers that core kinds send each other.
-use Rattle.std.specs.Prelude.{ℕ, ◌^◌, nat_lt, Bool, true, false, []}
+use Rattle.std.specs.Prelude.{ℕ, ◌^◌, nat_lt, Bool, true, false, List, []}
 use Rattle.ss_model.specs.declared.Cause.{Cause}
 use Rattle.ss_model.specs.declared.Cause.TheVariants as cause
 use Rattle.ss_model.specs.declared.Action.{Action}
@@ -16,6 +16,10 @@ sent x = action.Send 0 0 x
 -- a number that is sent out of the first port
 abbrev pub sends : ℕ → Action Load
 sends n = sent (load.Core n)
+
+-- a text that is printed
+abbrev pub prints : List ℕ → Action Load
+prints text = action.Print text
 
 -- nothing changes, and nothing is asked for
 abbrev pub still : {S : Type 0} → S → Reaction S Load

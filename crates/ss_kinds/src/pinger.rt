@@ -6,7 +6,7 @@ ghost use Rattle.ss_element.specs.Gives.{Tells};
 ghost use Rattle.ss_kinds.specs.declared.names.StatName.TheVariants.{Roundtrip};
 ghost use Rattle.ss_kinds.specs.Names.{stat_text};
 ghost use Rattle.mr_flow.specs.declared.Load.TheVariants as net;
-ghost use Rattle.ss_kinds.specs.Number.{sends, no_channel};
+ghost use Rattle.ss_kinds.specs.Number.{sends, prints, no_channel};
 ghost use Rattle.ss_kinds.specs.Pinger.{pong_text, thrown, number_back, pinger_handled, pinger_form};
 
 use crate::number::{cause_fits, number_in, send, send_load};
@@ -42,7 +42,6 @@ pub struct Pinger {
 
 impl Pinger {
     /// What is printed when a number comes back.
-    #[inline(never)]
     fn pong_text(&self, alloc: Global, n: u32, now: u64) -> Result<Text, AllocError>
         ensures { IfOk result (λ t. t ≡ pong_text self.now.name n now) }
     {
@@ -57,6 +56,15 @@ impl Pinger {
         text.push_str(alloc, time)?;
         text.push_str(alloc, " ps\n")?;
         Ok(text)
+    }
+
+    /// Prints a number that came back.
+    #[inline(never)]
+    fn print_pong(&self, n: u32, now: u64, acts: &mut Acts<Load>) -> Result<(), AllocError>
+        ensures { OnOk result (acts.new ≡ acts.old ++ prints (pong_text self.now.name n now) ∷ []) }
+    {
+        let text = self.pong_text(acts.allocator(), n, now)?;
+        acts.push(Action::Print { text })
     }
 
     /// Sends a number, and notes it.
@@ -94,8 +102,7 @@ impl Pinger {
         ensures actions { OnOk result (acts.new ≡ acts.old ++ (number_back self.old n now).actions) }
     {
         let next = self.next_in(came);
-        let text = self.pong_text(acts.allocator(), n, now)?;
-        acts.push(Action::Print { text })?;
+        self.print_pong(n, now, acts)?;
         let taken = now.saturating_sub(self.at);
         tally(&mut self.stats, self.roundtrip, taken);
         self.got = self.got.saturating_add(1).min(self.count);

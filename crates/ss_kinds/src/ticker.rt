@@ -5,7 +5,7 @@ ghost use Rattle.ss_stats.specs.Set.{place_of};
 ghost use Rattle.ss_element.specs.Gives.{Tells};
 ghost use Rattle.ss_kinds.specs.declared.names.StatName.TheVariants.{Events};
 ghost use Rattle.ss_kinds.specs.Names.{stat_text};
-ghost use Rattle.ss_kinds.specs.Number.{no_channel};
+ghost use Rattle.ss_kinds.specs.Number.{prints, no_channel};
 ghost use Rattle.ss_kinds.specs.Ticker.{tick_text, event_text, port_label, ticked, ticker_handled, ticker_form};
 
 use crate::names::{port_name, ticker_ports};
@@ -57,7 +57,6 @@ fn port_label(port: u16) -> &'static str
 
 impl Ticker {
     /// What is printed at a tick.
-    #[inline(never)]
     fn tick_text(&self, alloc: Global, now: u64) -> Result<Text, AllocError>
         ensures { IfOk result (λ t. t ≡ tick_text self.now.name self.now.ticks now) }
     {
@@ -75,7 +74,6 @@ impl Ticker {
     }
 
     /// What is printed when a number comes.
-    #[inline(never)]
     fn event_text(&self, alloc: Global, n: u32, port: u16, now: u64) -> Result<Text, AllocError>
         ensures { IfOk result (λ t. t ≡ event_text self.now.name n (port_label port) now) }
     {
@@ -94,13 +92,36 @@ impl Ticker {
         Ok(text)
     }
 
+    /// Prints a tick that was counted.
+    #[inline(never)]
+    fn print_tick(&self, now: u64, acts: &mut Acts<Load>) -> Result<(), AllocError>
+        ensures { OnOk result (acts.new ≡ acts.old ++ prints (tick_text self.now.name self.now.ticks now) ∷ []) }
+    {
+        let text = self.tick_text(acts.allocator(), now)?;
+        acts.push(Action::Print { text })
+    }
+
+    /// Prints a number that came.
+    #[inline(never)]
+    fn print_event(
+        &self,
+        n: u32,
+        port: u16,
+        now: u64,
+        acts: &mut Acts<Load>,
+    ) -> Result<(), AllocError>
+        ensures { OnOk result (acts.new ≡ acts.old ++ prints (event_text self.now.name n (port_label port) now) ∷ []) }
+    {
+        let text = self.event_text(acts.allocator(), n, port, now)?;
+        acts.push(Action::Print { text })
+    }
+
     /// Prints a tick that was counted, sends its number where that leads anywhere, and turns the clock off
     /// after the last.
     fn tell(&self, now: u64, acts: &mut Acts<Load>) -> Result<(), AllocError>
         ensures { OnOk result (acts.new ≡ acts.old ++ (ticked self.now now).actions) }
     {
-        let text = self.tick_text(acts.allocator(), now)?;
-        acts.push(Action::Print { text })?;
+        self.print_tick(now, acts)?;
         if self.linked {
             send(self.ticks, acts)?;
         }
@@ -150,8 +171,7 @@ impl Ticker {
                 let Load::Core { n } = load else {
                     return Ok(());
                 };
-                let text = self.event_text(acts.allocator(), *n, *port, now)?;
-                acts.push(Action::Print { text })?;
+                self.print_event(*n, *port, now, acts)?;
                 tally(&mut self.stats, self.events, *n as u64);
                 Ok(())
             }

@@ -1,6 +1,6 @@
 //! What follows one event, over the parts of a simulation.
 
-ghost use Rattle.std.specs.Prelude.{◌≡◌, ◌<◌, ◌≤◌, ◌^◌, [], ◌∷◌, ◌++◌, OnOk, OnErr, IfSome, List, ℕ, Some, length, slice_get, option_to_list, map};
+ghost use Rattle.std.specs.Prelude.{◌≡◌, ◌<◌, ◌≤◌, ◌^◌, [], ◌∷◌, ◌++◌, OnOk, OnErr, IfSome, List, ℕ, Some, drop, length, slice_get, option_to_list, map};
 ghost use Rattle.ss_model.specs.Order.{insert_all};
 ghost use Rattle.ss_model.specs.Wiring.{WiringFits, told};
 ghost use Rattle.ss_model.specs.Step.{made, made_all, again, printed, step_told, lines_told};
@@ -49,6 +49,22 @@ fn put_made<E: Element>(
     pending.insert_copied(key, load)
 }
 
+// Moves the text of the first action into a line, where that action prints one, and leaves the others.
+#[inline(never)]
+fn print_text<L: Drop>(
+    key: Key,
+    acts: &mut Acts<L>,
+    lines: &mut Vec<Line>,
+) -> Result<(), AllocError>
+    ensures rest { acts.new ≡ drop 1 acts.old }
+    ensures lines { OnOk result (lines.new.items ++ printed key acts.new ≡ lines.old.items ++ printed key acts.old) }
+{
+    if let Some(Action::Print { text }) = acts.take() {
+        lines.push(Line { key, text })?;
+    }
+    Ok(())
+}
+
 // Does what the actions ask for, in order. A load is copied from its action into its event, and the action is passed
 // by; a text moves into its line.
 fn carry_out_all<E: Element>(
@@ -67,9 +83,7 @@ fn carry_out_all<E: Element>(
 {
     while let Some(action) = acts.get(0) {
         if let Action::Print { .. } = action {
-            if let Some(Action::Print { text }) = acts.take() {
-                lines.push(Line { key, text })?;
-            }
+            print_text(key, acts, lines)?;
         } else {
             put_made::<E>(wires, component, key.time, action, pending)?;
             acts.skip();
